@@ -6,6 +6,7 @@ ghost use Rattle.acyclic_numbering.specs.Heights.{IsLower, IsEdge, AreHeights, n
 ghost use Rattle.acyclic_numbering.specs.Numbered.{IsOpen, open_count, IsNumberable, IsNextNumber, IsRaised, IsRaisedAlong, AreReached, AreHeightsSoFar, IsNumbered, IsStuck, IsWalkedSoFar, IsClosedAt, IsClosedWalk};
 ghost use Rattle.net_base.specs.Members.{IsIn};
 ghost use Rattle.net_base.specs.declared.ids.SwitchId.{SwitchId};
+ghost use Rattle.net_base.specs.Switches.{most_switches};
 
 use net_base::{ListOf, Memory, SwitchId};
 use std::alloc::Global;
@@ -105,7 +106,7 @@ fn is_next(edges: &[Edge], pending: &[bool], s: SwitchId) -> bool
 
 /// A switch without a number whose edges lead to switches that have one.
 fn next_ready(edges: &[Edge], pending: &[bool]) -> Option<SwitchId>
-    requires few { length pending.now ≤ 128 }
+    requires few { length pending.now ≤ most_switches }
     requires edges { All (λ e. (e.from.0 < length pending.now) × (e.to.0 < length pending.now))
         edges.now }
     ensures { MatchOption result ((s : SwitchId) → IsOpen pending.now s
@@ -150,7 +151,7 @@ fn next_number(edges: &[Edge], numbers: &[u16], s: SwitchId) -> u16
 
 /// Gives a switch its number.
 fn give_number(edges: &[Edge], numbers: &mut [u16], pending: &mut [bool], s: SwitchId)
-    requires few { length pending.old ≤ 128 }
+    requires few { length pending.old ≤ most_switches }
     requires within { s.0 < length pending.old }
     requires edges { All (λ e. (e.from.0 < length pending.old) × (e.to.0 < length pending.old))
         edges.now }
@@ -233,7 +234,7 @@ fn closed_walk(
 
 /// The first switch without a number.
 fn first_open(pending: &[bool]) -> Option<SwitchId>
-    requires { length pending.now ≤ 128 }
+    requires { length pending.now ≤ most_switches }
     ensures { MatchOption result ((s : SwitchId) → ¬ IsOpen pending.now s)
         (λ s. IsOpen pending.now s) }
 {
@@ -266,7 +267,7 @@ fn cycle_from(
 /// The heights, found switch by switch, each after those to which its edges lead; or a closed walk of edges.
 /// It looks at each edge once for each pair of switches at most.
 fn number_each(alloc: Global, switches: u32, edges: &[Edge]) -> Result<Numbered, Memory>
-    requires switches { switches ≤ 128 }
+    requires switches { switches ≤ most_switches }
     requires edges { All (λ e. (e.from.0 < switches) × (e.to.0 < switches)) edges.now }
     ensures { IfOk result (λ found. IsNumbered (IsEdge edges.now) switches found) }
 {
@@ -285,7 +286,7 @@ fn number_each(alloc: Global, switches: u32, edges: &[Edge]) -> Result<Numbered,
 /// Raises the number of the switch that an edge leaves to one more than that to which it leads, where it isn't higher already.
 /// The result is false, and the numbers stay, where it would reach the count of switches. It would only where there is a cycle.
 fn raise(numbers: &mut [u16], edge: &Edge) -> bool
-    requires few { length numbers.old ≤ 128 }
+    requires few { length numbers.old ≤ most_switches }
     requires from { edge.now.from.0 < length numbers.old }
     requires to { edge.now.to.0 < length numbers.old }
     ensures { IsRaisedAlong edge.now numbers.old numbers.new }
@@ -305,7 +306,7 @@ fn raise(numbers: &mut [u16], edge: &Edge) -> bool
 /// Raises the numbers along each edge, from the last to the first. The result is false where one would reach the count of
 /// switches.
 fn raise_once(numbers: &mut [u16], edges: &[Edge]) -> bool
-    requires few { length numbers.old ≤ 128 }
+    requires few { length numbers.old ≤ most_switches }
     requires edges { All (λ e. (e.from.0 < length numbers.old) × (e.to.0 < length numbers.old))
         edges.now }
     requires reached { AreReached (IsEdge edges.now) numbers.old }
@@ -336,7 +337,7 @@ fn fall_along(numbers: &[u16], edges: &[Edge]) -> bool
 /// Raises the numbers until they fall along each edge, and so are the heights. The result is false where they don't after a
 /// pass for each switch, or where one would reach the count of switches.
 fn raise_all(numbers: &mut [u16], edges: &[Edge]) -> bool
-    requires few { length numbers.old ≤ 128 }
+    requires few { length numbers.old ≤ most_switches }
     requires edges { All (λ e. (e.from.0 < length numbers.old) × (e.to.0 < length numbers.old))
         edges.now }
     requires reached { AreReached (IsEdge edges.now) numbers.old }
@@ -358,7 +359,7 @@ fn raise_all(numbers: &mut [u16], edges: &[Edge]) -> bool
 /// in another order at most twice for each switch. Where there is a cycle, it looks at each edge once more for each pair of
 /// switches at most.
 pub fn number(alloc: Global, switches: u32, edges: &[Edge]) -> Result<Numbered, Memory>
-    requires switches { switches ≤ 128 }
+    requires switches { switches ≤ most_switches }
     requires edges { All (λ e. (e.from.0 < switches) × (e.to.0 < switches)) edges.now }
     ensures { IfOk result (λ found. IsNumbered (IsEdge edges.now) switches found) }
 {

@@ -28,7 +28,7 @@ use Rattle.check_reasons.proofs.TouchLaws.{not_covered}
 use Rattle.check_reasons.proofs.SameWalks.{was_on_walk, was_safe, same_on_walk, same_safe}
 use Rattle.mixed_walks.specs.Walks.{KeepVlansUpTo, TablesKeepVlans}
 use Rattle.mixed_walks.proofs.PlaceLaws.{on_walk_in, on_walk_vlan, places_within}
-use Rattle.net_base.specs.Switches.{has}
+use Rattle.net_base.specs.Switches.{has, most_switches}
 use Rattle.class_watch.specs.Walks.{HoldsWalks, at_rest, HoldsTables, meets, meets_any}
 use Rattle.class_watch.specs.Alike.{covering_changes, AreAlike}
 use Rattle.class_watch.proofs.CoveringLaws.{possible_by_covering}
@@ -206,7 +206,7 @@ untouched_walk (c ∷ round) class set off =
 
 -- the set of all of 128 switches holds where packets of each class come to
 pub all_held : (net : Network) (tables : List (List Rule)) (class : Class) (set : ℕ) → IsNetwork net → TablesKeepVlans tables → class.entry.switch.0 < switch_count net
-    → ((s : SwitchId) → s.0 < 128 → IsTrue (has set s)) → HoldsTables net tables class set
+    → ((s : SwitchId) → s.0 < most_switches → IsTrue (has set s)) → HoldsTables net tables class set
 all_held net tables class set is keeps within all place on =
     let there = places_within net class.entry is within place (on_walk_in (at_rest net tables) 0 class.first class.entry keeps (λ j le. tt) place on) in
     all place.switch (let few = is.few in omega arith)

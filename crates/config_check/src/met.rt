@@ -5,11 +5,11 @@ ghost use Rattle.demands.specs.Duties.{ClassDuties};
 ghost use Rattle.config_check.specs.Met.{MeetsChainsOf, IsMetPath};
 
 use demands::Duties;
-use net_base::{Port, Stop, SwitchId};
+use net_base::{MAX_SWITCHES, Port, Stop, SwitchId};
 use std::marker::Model;
 
 /// How many stops are kept: no network has more switches.
-const MOST_STOPS: usize = 128;
+const MOST_STOPS: usize = MAX_SWITCHES as usize;
 
 /// A class whose chains its path met, if any, and the stops of the path: so many of these. It is handed from one class that
 /// is judged to the next.
@@ -17,18 +17,19 @@ const MOST_STOPS: usize = 128;
 pub struct MetPath {
     class: Option<u32>,
     count: usize,
-    stops: [Stop; 128],
+    stops: [Stop; MOST_STOPS],
 }
 
 impl Model for MetPath {
     ghost use Rattle.std.specs.Prelude.{◌≤◌, take};
     ghost use Rattle.config_check.specs.Met.{MetState};
+    ghost use Rattle.net_base.specs.Switches.{most_switches};
 
     ghost Value = { MetState };
 
     ghost view = { λ m. record { class = m.class; stops = take m.count m.stops } };
 
-    ghost invariant = { λ m. m.count ≤ 128 };
+    ghost invariant = { λ m. m.count ≤ most_switches };
 }
 
 impl MetPath {
@@ -43,7 +44,7 @@ impl MetPath {
         MetPath {
             class: None,
             count: 0,
-            stops: [stop; 128],
+            stops: [stop; MOST_STOPS],
         }
     }
 

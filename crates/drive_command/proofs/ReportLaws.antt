@@ -25,6 +25,7 @@ use Rattle.switch_session.specs.declared.Session.TheVariants.{Waiting, Open, Fai
 use Rattle.update_driver.specs.Drivers.{DriverState, channel_at}
 use Rattle.switch_session.specs.Causes.{cause_text}
 use Rattle.drive_command.specs.Reports.{session_lines, by_switch, sent_to, session_of, front_lines, last_line, log_text, report_text}
+use Rattle.net_base.specs.Switches.{most_switches}
 
 -- ---- the lines on the switches
 
@@ -119,7 +120,7 @@ module _ (d : DriverState) where
         (each_switch (Lacks 10) (sent_to d) sent_lacks 0 net.names keeps.name_forms)
         (each_switch (Lacks 10) (session_of d) (λ i name is. session_lacks name (channel_at d (switch_numbered i)).session is) 0 net.names keeps.name_forms)
 
-    front_short : length net.names ≤ 128 → length (front_lines net d) ≤ 1000000
+    front_short : length net.names ≤ most_switches → length (front_lines net d) ≤ 1000000
     front_short few =
         let sent = count_switch (sent_to d) (λ i name. let one : length (sent_to d i name) ≤ 1 = omega arith in one) 0 net.names in
         let sessions = count_switch (session_of d) (λ i name. session_one name (channel_at d (switch_numbered i)).session) 0 net.names in
@@ -130,7 +131,7 @@ module _ (d : DriverState) where
     last_lacks rounds = Lacks-append 10 (codes "# ") (phase_line d.phase rounds) (Lacks-from 32 10 (codes "# ") (omega arith) refl) (Lacks-from 32 10 (phase_line d.phase rounds) (omega arith) (phase_from d.phase rounds))
 
     -- read as a schedule, the report is the log
-    pub report_read : (rounds : List (List Change)) → length net.names ≤ 128 → AllByRecursion (HasLine net) d.log → length d.log ≤ 4000000
+    pub report_read : (rounds : List (List Change)) → length net.names ≤ most_switches → AllByRecursion (HasLine net) d.log → length d.log ≤ 4000000
         → schedule_in net (report_text net rounds d) ≡ Ok (numbered_lines (1 + length (front_lines net d)) d.log)
     unfolding report_text
     report_read rounds few lines short =

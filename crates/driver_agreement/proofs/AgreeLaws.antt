@@ -60,6 +60,7 @@ use Rattle.two_way_driver.proofs.SendingLaws.{texts-append, quiet, texts_open, c
 use Rattle.driver_agreement.specs.Agreement.{two_way_call, Agree}
 use Rattle.driver_agreement.proofs.SwitchLaws.{events_of, same_waits, none_at, PeerAs, IsOnward, x, g, unanswered_heard, heard_is, more_none, peer_unanswered, peer_answered, opened_none}
 use Rattle.driver_agreement.proofs.MessageLaws.{behind_is, concat_texts, none_passes, find_alike, none_found, texts_are, no_barrier_in, barriers_to, changed_from, asks_so, asked_barrier}
+use Rattle.net_base.specs.Switches.{most_switches}
 
 -- ---- events
 
@@ -323,7 +324,7 @@ module _ (net : Network) (rounds inverses : List (List Change)) where
 
 -- ---- a round starts
 
-module _ (net : Network) (rounds inverses : List (List Change)) (few : switch_count net ≤ 128) (drivable : onward.AreDrivable net rounds) where
+module _ (net : Network) (rounds inverses : List (List Change)) (few : switch_count net ≤ most_switches) (drivable : onward.AreDrivable net rounds) where
   module _ (k : ℕ) (less : k < length rounds) where
     abbrev round : List Change
     round = round_after k rounds

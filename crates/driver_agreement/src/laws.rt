@@ -6,12 +6,13 @@ ghost use Rattle.update_model.specs.declared.Change.{Change};
 ghost use Rattle.update_driver.specs.Calls as onward;
 ghost use Rattle.two_way_driver.specs.Laws as two_way;
 ghost use Rattle.driver_agreement.specs.Agreement.{two_way_call, Agree};
+ghost use Rattle.net_base.specs.Switches.{most_switches};
 
 /// Over the same starts and the same bytes both drivers send the same to each switch and log the same events. They refuse the
 /// same starts. A network has at most 128 switches.
 pub fn both_drivers_agree()
     ensures { (net : Network) (rounds inverses : List (List Change)) (calls : List onward.Call)
-        → switch_count net ≤ 128
+        → switch_count net ≤ most_switches
         → onward.AreDrivable net rounds
         → AllByRecursion (onward.IsCall net) calls
         → Agree net rounds (onward.driver_after net rounds calls)

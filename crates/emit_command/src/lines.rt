@@ -1,7 +1,7 @@
 //! Writing the lines: one text grows, and nothing is kept besides.
 ghost use Rattle.std.specs.Prelude.{◌≡◌, ◌≤◌, ◌<◌, ◌+◌, ◌*◌, ◌++◌, ◌^◌, ◌∷◌, [], length, map, filter, sum_by, IfOk, OnOk};
 ghost use Rattle.std.specs.List.{AllByRecursion};
-ghost use Rattle.net_base.specs.Switches.{has};
+ghost use Rattle.net_base.specs.Switches.{has, most_switches};
 ghost use Rattle.update_model.specs.Ranges.{IsPlanChange};
 ghost use Rattle.round_messages.specs.Requests.{change_request, barrier_request, round_requests, requests_from, switches_of};
 ghost use Rattle.emit_command.specs.Lines.{line, emit_text};
@@ -113,7 +113,7 @@ impl Lines {
         changed: SwitchSet,
     ) -> Result<(), Memory>
         requires round { round < 4200 }
-        requires xids { self.old.xid + 128 < 2 ^ 32 }
+        requires xids { self.old.xid + most_switches < 2 ^ 32 }
         ensures { OnOk result
             (AddsLines net.now
             (map (barrier_request round) (filter (has changed) (switches_of net.now)))
@@ -138,7 +138,7 @@ impl Lines {
     ) -> Result<(), Memory>
         requires round { round < 4200 }
         requires plan { AllByRecursion (IsPlanChange net.now) changes.now }
-        requires xids { self.old.xid + length changes.now + 128 < 2 ^ 32 }
+        requires xids { self.old.xid + length changes.now + most_switches < 2 ^ 32 }
         ensures { OnOk result
             (AddsLines net.now (round_requests net.now round changes.now) self.old self.new) }
     {

@@ -2,6 +2,7 @@
 ghost use Rattle.std.specs.Prelude.{◌≡◌, [], length, IfOk, MatchBool};
 ghost use Rattle.waypoint_evidence.specs.Befores.{marked_from};
 ghost use Rattle.evidence_store.specs.Numbers.{IsFound, IsAdded};
+ghost use Rattle.net_base.specs.Switches.{most_switches};
 
 use acyclic_numbering::Numbering;
 use certificates::{Shared, SharedKey};
@@ -66,7 +67,7 @@ impl Model for BeforeKeys {
 
 /// The numbers of the marked places.
 fn marked(alloc: Global, marks: &[bool]) -> Result<Vec<u32>, Memory>
-    requires { length marks.now ≡ 128 }
+    requires { length marks.now ≡ most_switches }
     ensures { IfOk result (λ members. members.items ≡ marked_from 0 marks.now) }
 {
     let mut members = Vec::new(alloc);

@@ -10,6 +10,7 @@ ghost use Rattle.certificates.specs.Ordered.{chain_positions, positions};
 ghost use Rattle.dest_classes.specs.Numbered.{IsNumbered};
 ghost use Rattle.check_reasons.specs.Positions.{position_count, sets_of};
 ghost use Rattle.evidence_store.specs.Guards.{AreStepsBelow, IsGuarded};
+ghost use Rattle.net_base.specs.Switches.{most_switches};
 
 use acyclic_numbering::{Edge, Numbering, lowers};
 use check_reasons::{earlier_set, from_place, set_at};
@@ -56,8 +57,8 @@ fn guards_chain(
     befores: &[Before],
     indices: &[u64],
 ) -> bool
-    requires start { start.0 < 128 }
-    requires within { AreStepsBelow 128 walk.now }
+    requires start { start.0 < most_switches }
+    requires within { AreStepsBelow most_switches walk.now }
     requires indices { All (λ i. i < length befores.now) indices.now }
     requires enough { length chain.now ≤ length indices.now }
     ensures { IsTrue result
@@ -84,8 +85,8 @@ pub(crate) fn guards_all(
 ) -> bool
     requires number { numbered.number < class_count duties.now.classes }
     requires class { IsNumbered duties.now.classes numbered }
-    requires start { numbered.class.entry.switch.0 < 128 }
-    requires within { AreStepsBelow 128 walk.now }
+    requires start { numbered.class.entry.switch.0 < most_switches }
+    requires within { AreStepsBelow most_switches walk.now }
     requires indices { All (λ i. i < length befores.now) indices.now }
     requires count { length indices.now
         ≡ position_count

@@ -13,6 +13,7 @@ use Rattle.path_walk.specs.declared.Outcome.TheVariants.{Discard, Leave, Go}
 use Rattle.acyclic_numbering.specs.declared.Edge.{Edge}
 use Rattle.mixed_walks.specs.Walks.{WalkState}
 use Rattle.mixed_walks.specs.Walking.{IsNoted, AreFew}
+use Rattle.net_base.specs.Switches.{most_switches}
 
 only : {A : Type 0} (x y : A) → IsIn y (x ∷ []) → y ≡ x
 only x y i = elim i [ inl e ↦ e | inr j ↦ absurd j ]
@@ -180,5 +181,5 @@ room_for_next places next few absent =
     let m = few.few in
     omega arith
 
-pub next_near : (places : List Place) (next : Place) → AreFew places (Go next ∷ []) → next.switch.0 < 128
+pub next_near : (places : List Place) (next : Place) → AreFew places (Go next ∷ []) → next.switch.0 < most_switches
 next_near places next few = few.near next (few.led_to next (inl refl))

@@ -10,6 +10,7 @@ use Rattle.net_base.specs.declared.ids.Place.{Place}
 use Rattle.mixed_walks.specs.Marked.{IsPlaceList, slot_number}
 use Rattle.mixed_walks.specs.Walks.{switches_of}
 use Rattle.mixed_walks.proofs.MarkedLaws.{in_push}
+use Rattle.net_base.specs.Switches.{most_switches}
 
 all_alike : {A : Type 0} (n : ℕ) (x : A) (m : ℕ) → get_or (replicate n x) m x ≡ x
 all_alike n x m =
@@ -131,7 +132,7 @@ module _ (bound : ℕ) (places : List Place) (capacity : ℕ) (slots : List ℕ)
       still n lt = let (was, out) = emptied n lt in out ((is.marked n).1 was)
 
 -- the places are at switches with numbers below 128
-pub place_near : (places : List Place) (capacity : ℕ) (slots : List ℕ) (switches : List SwitchId) → IsPlaceList 65536 places capacity slots switches → (p : Place) → IsIn p places → p.switch.0 < 128
+pub place_near : (places : List Place) (capacity : ℕ) (slots : List ℕ) (switches : List SwitchId) → IsPlaceList 65536 places capacity slots switches → (p : Place) → IsIn p places → p.switch.0 < most_switches
 place_near places capacity slots switches is p i =
     let below : p.switch.0 * 512 + p.port.0 % 512 < 65536 = place_below 65536 places capacity slots switches is p i in
     omega arith

@@ -5,6 +5,7 @@ use Rattle.net_base.specs.declared.ids.SwitchId.{SwitchId}
 use Rattle.net_base.specs.declared.ids.Place.{Place}
 use Rattle.acyclic_numbering.specs.declared.Edge.{Edge}
 use Rattle.mixed_walks.specs.Walks.{switches_of}
+use Rattle.net_base.specs.Switches.{most_switches}
 
 -- each member has a number of its own below the bound, the mark of a number says whether it stands there, and there is room for all
 pub record IsMarked {A : Type 0} (number : A → ℕ) (bound : ℕ) (list : List A) (capacity : ℕ) (marks : List Bool) : Type 0 where
@@ -19,11 +20,11 @@ switch_number s = s.0
 
 -- the number of a step between two of 128 switches
 abbrev pub edge_number : Edge → ℕ
-edge_number e = e.from.0 * 128 + e.to.0
+edge_number e = e.from.0 * most_switches + e.to.0
 
 -- a step between two of 128 switches
 abbrev pub IsNear : Edge → Type 0
-IsNear e = (e.from.0 < 128) × (e.to.0 < 128)
+IsNear e = (e.from.0 < most_switches) × (e.to.0 < most_switches)
 
 -- the number of the slot of a place, at one of 128 switches
 abbrev pub slot_number : Place → ℕ

@@ -11,6 +11,7 @@ use Rattle.path_walk.specs.declared.Outcome.TheVariants.{Discard, Leave, Go}
 use Rattle.update_model.specs.Mixtures.{Rollout, IsPossible, MayGo, IsOnMixedWalk}
 use Rattle.acyclic_numbering.specs.Heights.{IsEdge}
 use Rattle.mixed_walks.specs.Walks.{WalkState, IsAtPort}
+use Rattle.net_base.specs.Switches.{most_switches}
 
 -- the outcomes of a place are noted: the next places behind those that stood there, and the steps, leavings and discards at its switch
 pub record IsNoted (old : WalkState) (place : Place) (found : List Outcome) (new : WalkState) : Type 0 where
@@ -27,7 +28,7 @@ pub record AreFew (places : List Place) (found : List Outcome) : Type 0 where
   pub ends : List Place
   pub few : length ends ≤ 8193
   pub once : IsDistinct places
-  pub near : (p : Place) → IsIn p ends → p.switch.0 < 128
+  pub near : (p : Place) → IsIn p ends → p.switch.0 < most_switches
   pub stood : (p : Place) → IsIn p places → IsIn p ends
   pub led_to : (p : Place) → IsIn (Go p) found → IsIn p ends
 

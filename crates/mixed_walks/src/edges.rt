@@ -5,7 +5,7 @@ ghost use Rattle.acyclic_numbering.specs.declared.Edge.{Edge};
 ghost use Rattle.mixed_walks.specs.Marked.{edge_number, IsNear};
 
 use acyclic_numbering::Edge;
-use net_base::Memory;
+use net_base::{MAX_SWITCHES, Memory};
 use std::alloc::Global;
 use std::marker::Model;
 
@@ -35,7 +35,7 @@ fn edge_number(edge: &Edge) -> usize
     ensures number { result ≡ edge_number edge.now }
     ensures within { result < 16384 }
 {
-    edge.from.0 as usize * 128 + edge.to.0 as usize
+    edge.from.0 as usize * MAX_SWITCHES as usize + edge.to.0 as usize
 }
 
 /// Takes the marks of steps away.

@@ -3,8 +3,9 @@ ghost use Rattle.std.specs.Prelude.{◌≡◌, ◌↔◌, ◌⊎◌, ◌<◌, []
 ghost use Rattle.net_base.specs.Members.{IsIn};
 ghost use Rattle.net_base.specs.declared.ids.SwitchId.{SwitchId};
 ghost use Rattle.mixed_walks.specs.Marked.{switch_number};
+ghost use Rattle.net_base.specs.Switches.{most_switches};
 
-use net_base::{Memory, SwitchId};
+use net_base::{MAX_SWITCHES, Memory, SwitchId};
 use std::alloc::Global;
 use std::marker::Model;
 
@@ -19,12 +20,13 @@ impl Model for WalkedSwitches {
     ghost use Rattle.std.specs.Prelude.{List, vec_capacity};
     ghost use Rattle.net_base.specs.declared.ids.SwitchId.{SwitchId};
     ghost use Rattle.mixed_walks.specs.Marked.{IsMarked, switch_number};
+    ghost use Rattle.net_base.specs.Switches.{most_switches};
 
     ghost Value = { List SwitchId };
 
     ghost view = { λ a. a.list.items };
 
-    ghost invariant = { λ a. IsMarked switch_number 128 a.list.items (vec_capacity a.list) a.marks.items };
+    ghost invariant = { λ a. IsMarked switch_number most_switches a.list.items (vec_capacity a.list) a.marks.items };
 }
 
 /// Takes the marks of switches away.
@@ -45,22 +47,22 @@ impl WalkedSwitches {
         ensures { IfOk result (λ list. list ≡ []) }
     {
         Ok(WalkedSwitches {
-            list: Vec::with_capacity(alloc, 128)?,
-            marks: vec![in alloc; false; 128]?,
+            list: Vec::with_capacity(alloc, MAX_SWITCHES as usize)?,
+            marks: vec![in alloc; false; MAX_SWITCHES as usize]?,
         })
     }
 
     /// The switches, in the order in which they were put.
     pub(crate) fn list(&self) -> &[SwitchId]
         ensures value { result.now ≡ self.now }
-        ensures near { All (λ s. s.0 < 128) result.now }
+        ensures near { All (λ s. s.0 < most_switches) result.now }
     {
         &self.list
     }
 
     /// Puts a switch, if it doesn't stand there.
     pub(crate) fn put(&mut self, switch: SwitchId)
-        requires { switch.0 < 128 }
+        requires { switch.0 < most_switches }
         ensures { (s : SwitchId) → IsIn s self.new ↔ (IsIn s self.old ⊎ (s ≡ switch)) }
     {
         if !self.marks[switch.0 as usize] {

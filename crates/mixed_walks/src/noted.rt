@@ -5,6 +5,7 @@ ghost use Rattle.net_base.specs.declared.ids.Place.{Place};
 ghost use Rattle.net_base.specs.declared.ids.SwitchId.{SwitchId};
 ghost use Rattle.mixed_walks.specs.Walks.{switches_of};
 ghost use Rattle.mixed_walks.specs.Walking.{IsNoted, AreFew, IsEntered};
+ghost use Rattle.net_base.specs.Switches.{most_switches};
 
 use crate::edges::EdgeSet;
 use crate::marked::WalkedSwitches;
@@ -65,7 +66,7 @@ impl WalkNotes {
     /// The switches of the places, each once.
     pub(crate) fn switches(&self) -> &[SwitchId]
         ensures seen { (s : SwitchId) → IsIn s result.now ↔ IsIn s (switches_of self.now.places) }
-        ensures near { All (λ s. s.0 < 128) result.now }
+        ensures near { All (λ s. s.0 < most_switches) result.now }
     {
         self.reached.switches()
     }
@@ -103,7 +104,7 @@ impl WalkNotes {
 
     /// Forgets all but the place where the walks begin.
     pub(crate) fn start(&mut self, entry: Place)
-        requires { entry.switch.0 < 128 }
+        requires { entry.switch.0 < most_switches }
         ensures places { (p : Place) → IsIn p self.new.places ↔ (p ≡ entry) }
         ensures once { IsDistinct self.new.places }
         ensures nothing { (self.new.steps ≡ []) × (self.new.leaving ≡ [])
@@ -115,7 +116,7 @@ impl WalkNotes {
 
     /// Puts a place from which walks begin, if it doesn't stand there.
     pub(crate) fn enter(&mut self, entry: Place)
-        requires near { entry.switch.0 < 128 }
+        requires near { entry.switch.0 < most_switches }
         requires room { length self.old.places < 8193 }
         ensures { IsEntered entry self.old self.new }
     {
@@ -124,7 +125,7 @@ impl WalkNotes {
 
     /// Notes an outcome of a place.
     fn note(&mut self, place: Place, outcome: Outcome)
-        requires near { place.switch.0 < 128 }
+        requires near { place.switch.0 < most_switches }
         requires few { AreFew self.old.places (outcome ∷ []) }
         ensures { IsNoted self.old place (outcome ∷ []) self.new }
     {
@@ -144,7 +145,7 @@ impl WalkNotes {
 
     /// Notes all outcomes of a place.
     pub(crate) fn note_all(&mut self, place: Place, outcomes: &[Outcome])
-        requires near { place.switch.0 < 128 }
+        requires near { place.switch.0 < most_switches }
         requires few { AreFew self.old.places outcomes.now }
         ensures { IsNoted self.old place outcomes.now self.new }
     {

@@ -5,6 +5,7 @@ ghost use Rattle.net_base.specs.declared.ids.Place.{Place};
 ghost use Rattle.net_base.specs.declared.ids.SwitchId.{SwitchId};
 ghost use Rattle.mixed_walks.specs.Marked.{slot_number};
 ghost use Rattle.mixed_walks.specs.Walks.{switches_of};
+ghost use Rattle.net_base.specs.Switches.{most_switches};
 
 use crate::marked::WalkedSwitches;
 use net_base::{Memory, Place, SwitchId};
@@ -53,7 +54,7 @@ fn is_among(places: &[Place], place: Place) -> bool
 
 /// The slot of a place. Places share one only where their switch is the same, and their ports are equal modulo 512.
 fn slot_number(place: &Place) -> usize
-    requires { place.now.switch.0 < 128 }
+    requires { place.now.switch.0 < most_switches }
     ensures number { result ≡ slot_number place.now }
     ensures within { result < 65536 }
 {
@@ -62,7 +63,7 @@ fn slot_number(place: &Place) -> usize
 
 /// Empties the slots of places.
 fn empty_slots(places: &[Place], slots: &mut Vec<u16>)
-    requires near { All (λ p. p.switch.0 < 128) places.now }
+    requires near { All (λ p. p.switch.0 < most_switches) places.now }
     requires count { length slots.old.items ≡ 65536 }
     ensures count { length slots.new.items ≡ length slots.old.items }
     ensures taken { (n : ℕ) → 0 < slice_index_or slots.new.items n 0
@@ -103,7 +104,7 @@ impl ReachedPlaces {
     /// The switches of the places, each once.
     pub(crate) fn switches(&self) -> &[SwitchId]
         ensures seen { (s : SwitchId) → IsIn s result.now ↔ IsIn s (switches_of self.now) }
-        ensures near { All (λ s. s.0 < 128) result.now }
+        ensures near { All (λ s. s.0 < most_switches) result.now }
     {
         self.switches.list()
     }
@@ -111,7 +112,7 @@ impl ReachedPlaces {
     /// Whether the place stands there. It looks at one place, or none, but where another was put into its slot: then it
     /// may look at all of them, as at a switch whose ports are multiples of 512.
     fn has(&self, place: Place) -> bool
-        requires { place.switch.0 < 128 }
+        requires { place.switch.0 < most_switches }
         ensures { IsTrue result ↔ IsIn place self.now }
     {
         let last = self.slots[slot_number(&place)] as usize;
@@ -123,7 +124,7 @@ impl ReachedPlaces {
 
     /// Puts a place, if it doesn't stand there.
     pub(crate) fn put(&mut self, place: Place)
-        requires near { place.switch.0 < 128 }
+        requires near { place.switch.0 < most_switches }
         requires room { ¬ IsIn place self.old → length self.old < 8193 }
         ensures places { (p : Place) → IsIn p self.new ↔ (IsIn p self.old ⊎ (p ≡ place)) }
         ensures behind { (more : List Place) × (self.new ≡ self.old ++ more) }

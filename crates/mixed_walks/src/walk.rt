@@ -9,6 +9,7 @@ ghost use Rattle.topology.specs.Networks.{switch_count, IsUsed};
 ghost use Rattle.update_model.specs.Mixtures.{Rollout};
 ghost use Rattle.mixed_walks.specs.Walks.{switches_of, IsRoundOf, IsWalked, AreTogether};
 ghost use Rattle.mixed_walks.specs.Walking.{IsWalkedTo, IsExpanded, HaveRoom, IsEntered, IsTogetherTo};
+ghost use Rattle.net_base.specs.Switches.{most_switches};
 
 use crate::noted::WalkNotes;
 use acyclic_numbering::Edge;
@@ -53,7 +54,7 @@ impl WalkRoom {
     /// The switches that the walks that were walked last come to, each once.
     pub fn switches(&self) -> &[SwitchId]
         ensures seen { (s : SwitchId) → IsIn s result.now ↔ IsIn s (switches_of self.now.places) }
-        ensures near { All (λ s. s.0 < 128) result.now }
+        ensures near { All (λ s. s.0 < most_switches) result.now }
     {
         self.noted.switches()
     }
@@ -142,7 +143,7 @@ impl WalkRoom {
 
     /// Puts a place from which walks begin, if it doesn't stand there.
     fn enter(&mut self, entry: Place)
-        requires near { entry.switch.0 < 128 }
+        requires near { entry.switch.0 < most_switches }
         requires room { length self.old.places < 8193 }
         ensures { IsEntered entry self.old self.new }
     {

@@ -4,6 +4,9 @@
 #[derive(Clone, Copy, Debug, PartialEq, Eq, PartialOrd, Ord, Hash)]
 pub struct SwitchId(pub u32);
 
+/// How many switches a network may have at most: the numbers of switches are below it.
+pub const MAX_SWITCHES: u32 = 128;
+
 /// The greatest number of a port of a switch (OpenFlow 1.0.0, section 5.2.1: `OFPP_MAX` is 0xff00, and the numbers from it
 /// on name none).
 pub const MAX_PORT: u64 = 65279;

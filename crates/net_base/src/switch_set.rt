@@ -3,7 +3,7 @@ ghost use Rattle.std.specs.Prelude.{◌≡◌, ◌≢◌, ◌↔◌, ◌==◌, �
 ghost use Rattle.std.specs.Int.{bit_at};
 ghost use Rattle.net_base.specs.Members.{IsIn};
 ghost use Rattle.net_base.specs.declared.ids.SwitchId.{SwitchId as Switch};
-ghost use Rattle.net_base.specs.Switches.{has};
+ghost use Rattle.net_base.specs.Switches.{has, most_switches};
 
 use crate::ids::SwitchId;
 use std::marker::Model;
@@ -50,14 +50,14 @@ impl SwitchSet {
 
     /// All switches with numbers below 128.
     pub fn all() -> SwitchSet
-        ensures { (s : Switch) → s.0 < 128 → IsTrue (has result s) }
+        ensures { (s : Switch) → s.0 < most_switches → IsTrue (has result s) }
     {
         SwitchSet { bits: u128::MAX }
     }
 
     /// The switches of a list.
     pub fn of(switches: &[SwitchId]) -> SwitchSet
-        requires { All (λ s. s.0 < 128) switches.now }
+        requires { All (λ s. s.0 < most_switches) switches.now }
         ensures { (s : Switch) → IsTrue (has result s) ↔ IsIn s switches.now }
     {
         let mut set = SwitchSet::none();
@@ -69,7 +69,7 @@ impl SwitchSet {
 
     /// Puts a switch.
     pub fn put(&mut self, switch: SwitchId)
-        requires { switch.0 < 128 }
+        requires { switch.0 < most_switches }
         ensures there { IsTrue (has self.new switch) }
         ensures others { (s : Switch) → s.0 ≢ switch.0 → has self.new s ≡ has self.old s }
     {

@@ -5,6 +5,7 @@ ghost use Rattle.path_walk.specs.UserConfigs.{IsUserConfig};
 ghost use Rattle.dest_classes.specs.Classes.{class_count};
 ghost use Rattle.certificates.specs.Valid.{IsValidOrdered};
 ghost use Rattle.certificates.specs.Certified.{classes_for};
+ghost use Rattle.net_base.specs.Switches.{most_switches};
 
 use acyclic_numbering::Numbering;
 use certificates::{OrderedEvidence, Shared};
@@ -49,7 +50,7 @@ impl<'a> OrderedCase<'a> {
         ensures valid { IsValidOrdered self.now.task.update.net (length self.now.task.rounds)
             self.now.evidence }
         ensures rounds { length self.now.task.rounds ≤ 4200 }
-        ensures switches { switch_count self.now.task.update.net ≤ 128 }
+        ensures switches { switch_count self.now.task.update.net ≤ most_switches }
         ensures network { IsNetwork self.now.task.update.net }
         ensures old_user { IsUserConfig self.now.task.update.net self.now.task.update.old }
     {

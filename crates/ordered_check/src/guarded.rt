@@ -11,7 +11,7 @@ ghost use Rattle.ordered_check.specs.Guarded.{IsGuarded, HoldsGuarded};
 use crate::cases::OrderedCase;
 use acyclic_numbering::Edge;
 use mixed_walks::WalkRoom;
-use net_base::{Memory, SwitchId};
+use net_base::{MAX_SWITCHES, Memory, SwitchId};
 use std::alloc::Global;
 use std::marker::Model;
 
@@ -55,7 +55,7 @@ impl GuardedWalks {
         Ok(GuardedWalks {
             last: None,
             steps: Vec::with_capacity(alloc, 16384)?,
-            leaving: Vec::with_capacity(alloc, 128)?,
+            leaving: Vec::with_capacity(alloc, MAX_SWITCHES as usize)?,
         })
     }
 

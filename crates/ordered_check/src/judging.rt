@@ -16,6 +16,7 @@ ghost use Rattle.check_reasons.specs.Reasons.{class_duties};
 ghost use Rattle.ordered_check.specs.Firsts.{IsFirstOfClass};
 ghost use Rattle.ordered_check.specs.Guarded.{HoldsGuarded};
 ghost use Rattle.ordered_check.specs.Judged.{IsWayRound, AreGuardedBelow, IsFirstWayRound};
+ghost use Rattle.net_base.specs.Switches.{most_switches};
 
 use crate::cases::OrderedCase;
 use crate::guarded::{GuardedClass, GuardedWalks};
@@ -56,9 +57,9 @@ fn way_by_walks(
 ) -> Option<WayRound>
     requires class { IsNumbered (classes_for of.now.task) numbered }
     requires sets { All (λ i. i < length of.now.evidence.befores) shared.now.befores }
-    requires steps { All (λ e. (e.from.0 < 128) × (e.to.0 < 128)) walk.now.steps }
-    requires leaving { All (λ s. s.0 < 128) walk.now.leaving }
-    requires entry { numbered.class.entry.switch.0 < 128 }
+    requires steps { All (λ e. (e.from.0 < most_switches) × (e.to.0 < most_switches)) walk.now.steps }
+    requires leaving { All (λ s. s.0 < most_switches) walk.now.leaving }
+    requires entry { numbered.class.entry.switch.0 < most_switches }
     requires count { length shared.now.befores ≡ position_count
         (class_duties of.now.task numbered.class).chains }
     ensures none { IfNone result (AreGuardedBelow
@@ -92,9 +93,9 @@ fn way_of_class(
     requires class { IsNumbered (classes_for of.now.task) numbered }
     requires shared { slice_get of.now.evidence.uses pick.shared ≡ Some shared.now }
     requires sets { All (λ i. i < length of.now.evidence.befores) shared.now.befores }
-    requires steps { All (λ e. (e.from.0 < 128) × (e.to.0 < 128)) walk.now.steps }
-    requires leaving { All (λ s. s.0 < 128) walk.now.leaving }
-    requires entry { numbered.class.entry.switch.0 < 128 }
+    requires steps { All (λ e. (e.from.0 < most_switches) × (e.to.0 < most_switches)) walk.now.steps }
+    requires leaving { All (λ s. s.0 < most_switches) walk.now.leaving }
+    requires entry { numbered.class.entry.switch.0 < most_switches }
     requires count { length shared.now.befores ≡ position_count
         (class_duties of.now.task numbered.class).chains }
     requires guarded { HoldsGuarded of.now.task of.now.evidence guarded.old }

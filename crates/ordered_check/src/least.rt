@@ -7,6 +7,7 @@ ghost use Rattle.acyclic_numbering.specs.Heights.{IsEdge};
 ghost use Rattle.waypoint_evidence.specs.Befores.{Holds};
 ghost use Rattle.check_reasons.specs.Least.{IsLeastOf};
 ghost use Rattle.ordered_check.specs.Judged.{HasEdgeUp, HasStray, Strays, IsWayRound};
+ghost use Rattle.net_base.specs.Switches.{most_switches};
 
 use acyclic_numbering::{Edge, Numbering, lowers};
 use check_reasons::lesser;
@@ -40,7 +41,7 @@ pub(crate) fn least_of(switches: &[SwitchId]) -> Option<SwitchId>
 
 /// The least of the switches that the set holds.
 fn least_held(set: &Before, switches: &[SwitchId]) -> Option<SwitchId>
-    requires { All (λ s. s.0 < 128) switches.now }
+    requires { All (λ s. s.0 < most_switches) switches.now }
     ensures { IsLeastOf (λ s. Holds set.now s × IsIn s switches.now) result }
 {
     let mut least = None;
@@ -52,7 +53,7 @@ fn least_held(set: &Before, switches: &[SwitchId]) -> Option<SwitchId>
 
 /// Whether the step leaves the set otherwise than from outside the set before to the waypoint.
 fn strays(set: &Before, step: Edge, waypoint: SwitchId, earlier: Option<&Before>) -> bool
-    requires { (step.from.0 < 128) × (step.to.0 < 128) }
+    requires { (step.from.0 < most_switches) × (step.to.0 < most_switches) }
     ensures { IsTrue result ↔ Strays (record {
       waypoint = waypoint;
       earlier = option_copied earlier.entry;
@@ -69,7 +70,7 @@ fn least_stray(
     waypoint: SwitchId,
     earlier: Option<&Before>,
 ) -> Option<SwitchId>
-    requires { All (λ e. (e.from.0 < 128) × (e.to.0 < 128)) steps.now }
+    requires { All (λ e. (e.from.0 < most_switches) × (e.to.0 < most_switches)) steps.now }
     ensures { IsLeastOf (HasStray steps.now (record {
       waypoint = waypoint;
       earlier = option_copied earlier.entry;
@@ -96,9 +97,9 @@ pub(crate) fn least_way_round(
     waypoint: SwitchId,
     earlier: Option<&Before>,
 ) -> Option<SwitchId>
-    requires start { start.0 < 128 }
-    requires steps { All (λ e. (e.from.0 < 128) × (e.to.0 < 128)) steps.now }
-    requires leaving { All (λ s. s.0 < 128) leaving.now }
+    requires start { start.0 < most_switches }
+    requires steps { All (λ e. (e.from.0 < most_switches) × (e.to.0 < most_switches)) steps.now }
+    requires leaving { All (λ s. s.0 < most_switches) leaving.now }
     ensures { IsLeastOf (IsWayRound start (IsEdge steps.now) (λ s. IsIn s leaving.now)
         (record { waypoint = waypoint; earlier = option_copied earlier.entry; set = set.now }))
         result }

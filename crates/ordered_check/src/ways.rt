@@ -8,6 +8,7 @@ ghost use Rattle.certificates.specs.Ordered.{chain_positions, positions};
 ghost use Rattle.dest_classes.specs.Numbered.{IsNumbered};
 ghost use Rattle.check_reasons.specs.Positions.{position_count, sets_of};
 ghost use Rattle.ordered_check.specs.Judged.{IsWayRound, AreGuardedBelow, IsFirstWayRound};
+ghost use Rattle.net_base.specs.Switches.{most_switches};
 
 use crate::least::least_way_round;
 use acyclic_numbering::Edge;
@@ -33,9 +34,9 @@ fn way_round_chain(
     befores: &[Before],
     indices: &[u64],
 ) -> Option<WayRound>
-    requires start { start.0 < 128 }
-    requires steps { All (λ e. (e.from.0 < 128) × (e.to.0 < 128)) steps.now }
-    requires leaving { All (λ s. s.0 < 128) leaving.now }
+    requires start { start.0 < most_switches }
+    requires steps { All (λ e. (e.from.0 < most_switches) × (e.to.0 < most_switches)) steps.now }
+    requires leaving { All (λ s. s.0 < most_switches) leaving.now }
     requires indices { All (λ i. i < length befores.now) indices.now }
     requires enough { length chain.now ≤ length indices.now }
     ensures none { IfNone result (AreGuardedBelow
@@ -67,9 +68,9 @@ pub(crate) fn first_way_round(
     befores: &[Before],
     indices: &[u64],
 ) -> Option<WayRound>
-    requires start { numbered.class.entry.switch.0 < 128 }
-    requires steps { All (λ e. (e.from.0 < 128) × (e.to.0 < 128)) steps.now }
-    requires leaving { All (λ s. s.0 < 128) leaving.now }
+    requires start { numbered.class.entry.switch.0 < most_switches }
+    requires steps { All (λ e. (e.from.0 < most_switches) × (e.to.0 < most_switches)) steps.now }
+    requires leaving { All (λ s. s.0 < most_switches) leaving.now }
     requires number { numbered.number < class_count duties.now.classes }
     requires class { IsNumbered duties.now.classes numbered }
     requires indices { All (λ i. i < length befores.now) indices.now }

@@ -4,6 +4,7 @@ ghost use Rattle.flat_json.specs.Trees.{data_of};
 ghost use Rattle.net_base.specs.Reading.{Gives, Fails, in_turn};
 ghost use Rattle.plan_format.specs.declared.fault.PlanFault.TheVariants.{Memory};
 ghost use Rattle.plan_format.specs.Evidence as plan;
+ghost use Rattle.net_base.specs.Switches.{most_switches};
 
 use crate::fault::PlanFault;
 use crate::lists::{Counts, ItemPlace, are_below, ascends, is_index, read_numbers};
@@ -130,7 +131,7 @@ pub(crate) fn read_numberings(
 }
 
 fn set_of(switches: &[u64]) -> Before
-    requires few { plan.all_below 128 switches.now ≡ true }
+    requires few { plan.all_below most_switches switches.now ≡ true }
     requires ascending { plan.ascends nat_lt switches.now ≡ true }
     ensures { result ≡ switches.now }
 {
@@ -143,7 +144,7 @@ fn set_of(switches: &[u64]) -> Before
 
 /// The set of these switches.
 fn before_of(numbers: &IndexList) -> Before
-    requires few { plan.all_below 128 numbers.now ≡ true }
+    requires few { plan.all_below most_switches numbers.now ≡ true }
     requires ascending { plan.ascends nat_lt numbers.now ≡ true }
     ensures { result ≡ numbers.now }
 {

@@ -33,6 +33,7 @@ use Rattle.plan_format.specs.declared.rules.PlanRule.{PlanRule}
 use Rattle.plan_text.proofs.ChangesAgain.{IsInRange, HasNumber, rules_again, rounds_again}
 use Rattle.plan_text.proofs.EvidenceAgain.{numberings_again, befores_again, uses_again, picks_again, labels_again, label_picks_again}
 use Rattle.plan_text.proofs.UsedAgain.{used_numbered, used_in_range, used_few}
+use Rattle.net_base.specs.Switches.{most_switches}
 
 -- ---- with a list of rules that has those of all changes
 
@@ -188,7 +189,7 @@ plan_again net plan kept valid =
 
 -- ---- as bytes
 
-evidence_read : (net : Network) (rules : List PlanRule) (rounds : List (List Change)) (e : Evidence) → switch_count net ≤ 128 → before_count e < 2 ^ 64 → Serves net rules rounds
+evidence_read : (net : Network) (rules : List PlanRule) (rounds : List (List Change)) (e : Evidence) → switch_count net ≤ most_switches → before_count e < 2 ^ 64 → Serves net rules rounds
     → IsValidEvidence net (length rounds) (sum_by length rounds) e → let plan : Plan = record { rounds = rounds; evidence = e } in IsRead (object (plan_members net rules plan))
 evidence_read net rules rounds (Ordered e) switches few serves h =
     rw (ordered_is net rules (record { rounds = rounds; evidence = Ordered e }) e refl) (ordered_read net rules rounds serves.few serves.in_range serves.few_rounds e switches few h)

@@ -41,6 +41,7 @@ use Rattle.plan_text.specs.PlanText.{numbers_tree, name_of, set_tree, strip_tree
 use Rattle.plan_text.specs.Tokens.{tokens_of, ordered_members, two_phase_members, Adds}
 use Rattle.plan_text.proofs.Order.{member_if, in_order, put_all, all_in_order, rule_in_order, rule_is}
 use Rattle.plan_text.proofs.ChangesAgain.{IsInRange}
+use Rattle.net_base.specs.Switches.{most_switches}
 
 -- its JSON is read as it
 pub record IsRead (d : Data) : Type 0 where
@@ -185,7 +186,7 @@ rounds_read rules few rounds =
 numbering_read : (net : Network) (ns : List ℕ) → IsValidNumbering net ns → IsRead (numbers_tree ns)
 numbering_read net ns h = numbers_read (λ x. x ≤ 65535) (λ n le. omega arith) ns h.1
 
-before_read : (net : Network) → switch_count net ≤ 128 → (ns : List ℕ) → IsValidBefore net ns → IsRead (numbers_tree ns)
+before_read : (net : Network) → switch_count net ≤ most_switches → (ns : List ℕ) → IsValidBefore net ns → IsRead (numbers_tree ns)
 before_read net few ns h = numbers_read (λ s. s < switch_count net) (λ n lt. omega arith) ns h.0
 
 use_read : (numberings befores : ℕ) → befores < 2 ^ 64 → (u : Shared) → IsValidUse numberings befores u → IsRead (use_tree u)
@@ -219,7 +220,7 @@ module _ (net : Network) (rules : List PlanRule) (rounds : List (List Change)) (
   objects_read : IsRead (list_tree (map (rule_tree net) rules))
   objects_read = map_read (rule_tree net) (IsInRange net) (rule_read net) rules in_range
 
-  pub ordered_read : (e : OrderedEvidence) → switch_count net ≤ 128 → length e.befores < 2 ^ 64 → IsValidOrdered net (length rounds) e → IsRead (object (ordered_members net rules rounds e))
+  pub ordered_read : (e : OrderedEvidence) → switch_count net ≤ most_switches → length e.befores < 2 ^ 64 → IsValidOrdered net (length rounds) e → IsRead (object (ordered_members net rules rounds e))
   ordered_read e switches few h =
       let each : AreRead (ordered_members net rules rounds e) = (
         map_read numbers_tree (IsValidBefore net) (before_read net switches) e.befores h.befores,

@@ -21,6 +21,7 @@ use Rattle.ring_sample.specs.RingTrees.{rule_tree, configuration_tree}
 use Rattle.ring_sample.proofs.Ranges.{group_turns}
 use Rattle.ring_sample.proofs.Names.{named}
 use Rattle.ring_sample.proofs.Ports.{out_used}
+use Rattle.net_base.specs.Switches.{most_switches}
 
 pub prefix_block : (j : ℕ) → j < 4 → IsBlock (ring_prefix j)
 prefix_block j lt = record { length = omega arith; base = omega arith; aligned = omega arith }
@@ -29,7 +30,7 @@ none_found : (p : ℕ → Bool) (a m : ℕ) → ((i : ℕ) → a ≤ i → i < a
 none_found p a zero each = refl
 none_found p a (suc m) each = rw (each a (omega arith) (omega arith)) (none_found p (a + 1) m (λ i low high. each i (omega arith) (omega arith)))
 
-module _ (n : ℕ) (few : n ≤ 128) (port : ℕ) (low : 2 ≤ port) (high : port ≤ 3) where
+module _ (n : ℕ) (few : n ≤ most_switches) (port : ℕ) (low : 2 ≤ port) (high : port ≤ 3) where
   -- ---- one rule
 
   module _ (i : ℕ) (lt : i < n) where

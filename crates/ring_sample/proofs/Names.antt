@@ -20,6 +20,7 @@ use Rattle.topology.specs.References.{reference_parts}
 use Rattle.topology_files.specs.Topology.{reference}
 use Rattle.ring_sample.specs.Ring.{numbers_below, ring_name, ring_stop}
 use Rattle.ring_sample.specs.RingTrees.{port_text}
+use Rattle.net_base.specs.Switches.{most_switches}
 
 -- ---- the next switch
 
@@ -52,7 +53,7 @@ other_name : (i k : ℕ) → i < 2 ^ 64 → k < 2 ^ 64 → ¬ (i ≡ k) → byte
 other_name i k hi hk apart =
     false_from_ne_true (bytes_eq (ring_name i) (ring_name k)) (λ e. apart (name_injective i k hi hk ((bytes_eq-Decides (ring_name i) (ring_name k)).0 e)))
 
-module _ (n k : ℕ) (few : n ≤ 128) (within : k ≤ n) where
+module _ (n k : ℕ) (few : n ≤ most_switches) (within : k ≤ n) where
   abbrev is_it : List ℕ → Bool
   is_it m = bytes_eq (ring_name k) m
 
@@ -72,11 +73,11 @@ module _ (n k : ℕ) (few : n ≤ 128) (within : k ≤ n) where
   place_is = position_or_len_is is_it names k [] (omega (arith, many)) before at_it
 
 -- the name of the next switch is none of those before
-pub new_name : (k : ℕ) → k < 128 → switch_named (map ring_name (numbers_below k)) (ring_name k) ≡ None
+pub new_name : (k : ℕ) → k < most_switches → switch_named (map ring_name (numbers_below k)) (ring_name k) ≡ None
 new_name k lt = rw (place_is k k (omega arith) (omega arith), length-map-range_with_len ring_name 0 k, le-ltb k k (omega arith)) refl
 
 -- each name is that of its switch
-pub named : (n k : ℕ) → n ≤ 128 → k < n → switch_named (map ring_name (numbers_below n)) (ring_name k) ≡ Some k
+pub named : (n k : ℕ) → n ≤ most_switches → k < n → switch_named (map ring_name (numbers_below n)) (ring_name k) ≡ Some k
 named n k few lt = rw (place_is n k few (omega arith), length-map-range_with_len ring_name 0 n, lt-ltb k n lt) refl
 
 digit_passes : (c : ℕ) → is_ascii_digit c ≡ true → is_name_byte c ≡ true
@@ -87,7 +88,7 @@ digits_pass [] h = refl
 digits_pass (c ∷ cs) h = let (first, rest) = and_parts (is_ascii_digit c) (list_all is_ascii_digit cs) h in and_from _ _ (digit_passes c first) (digits_pass cs rest)
 
 -- each is a name that a switch may have
-pub name_form : (k : ℕ) → k < 128 → is_name (ring_name k) ≡ true
+pub name_form : (k : ℕ) → k < most_switches → is_name (ring_name k) ≡ true
 unfolding ring_name
 name_form k lt =
     let short : length (decimal k) ≤ 3 = length-decimal-le 3 k (omega arith) (omega arith) (omega arith) in
@@ -105,7 +106,7 @@ parts_again i port few =
     let joined : port_text i port ≡ ring_name i ++ 58 ∷ decimal port = append_assoc (ring_name i) (codes ":") (decimal port) in
     rw (joined, cut_last-at 58 (ring_name i) (decimal port) (no_colon port (omega arith)), decimal_in-decimal port 99999 few (omega arith)) refl
 
-pub reference_again : (net : Network) (n i port : ℕ) (field : Field) (place : ℕ) → net.names ≡ map ring_name (numbers_below n) → n ≤ 128 → i < n → 1 ≤ port → port ≤ 9
+pub reference_again : (net : Network) (n i port : ℕ) (field : Field) (place : ℕ) → net.names ≡ map ring_name (numbers_below n) → n ≤ most_switches → i < n → 1 ≤ port → port ≤ 9
     → reference net field place (port_text i port) ≡ Ok (ring_stop i port)
 unfolding reference
 reference_again net n i port field place names few lt low high =

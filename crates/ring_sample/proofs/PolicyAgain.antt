@@ -20,6 +20,7 @@ use Rattle.ring_sample.proofs.Ranges.{flat_more, group_turns}
 use Rattle.ring_sample.proofs.Names.{named, parts_again}
 use Rattle.ring_sample.proofs.Ports.{host_is}
 use Rattle.ring_sample.proofs.ConfigurationAgain.{prefix_block}
+use Rattle.net_base.specs.Switches.{most_switches}
 
 not_any : (i : ℕ) → bytes_eq (port_text i 1) (codes "any") ≡ false
 unfolding port_text ring_name
@@ -35,7 +36,7 @@ few_flat group few a (suc m) = omega (arith, length-append (group a) (flat_map g
 pub each_other : (i : ℕ) → AllByRecursion (λ j. j < 4) (others i)
 each_other i = each_filter (λ j. j < 4) (λ j. not (j == i)) destinations (omega arith, (omega arith, (omega arith, (omega arith, tt))))
 
-module _ (n : ℕ) (few : n ≤ 128) where
+module _ (n : ℕ) (few : n ≤ most_switches) where
   module _ (i : ℕ) (lt : i < n) where
     host_again : (place : ℕ) → host_in (ring_network n) place (port_text i 1) ≡ Ok (record { switch = record { 0 = i }; port = record { 0 = 1 } })
     unfolding host_in ring_network

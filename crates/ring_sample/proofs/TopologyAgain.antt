@@ -23,6 +23,7 @@ use Rattle.ring_sample.specs.Ring.{numbers_below, ring_name, ring_stop, ring_lin
 use Rattle.ring_sample.specs.RingTrees.{switch_tree, link_tree, host_tree, topology_tree, port_text}
 use Rattle.ring_sample.proofs.Ranges.{numbered_turns, none_mapped, one_counted, count_mapped}
 use Rattle.ring_sample.proofs.Names.{next_cases, next_apart, new_name, name_form, reference_again}
+use Rattle.net_base.specs.Switches.{most_switches}
 
 -- ---- switches
 
@@ -30,24 +31,24 @@ use Rattle.ring_sample.proofs.Names.{next_cases, next_apart, new_name, name_form
 abbrev switches_of : ℕ → Network
 switches_of k = record { names = map ring_name (numbers_below k); capacities = map (λ i. 64) (numbers_below k); links = []; hosts = []; vlans = []; tags = None }
 
-name_again : (place k : ℕ) → k < 128 → name_at place (switches_of k) (switch_tree k) ≡ Ok (ring_name k)
+name_again : (place k : ℕ) → k < most_switches → name_at place (switches_of k) (switch_tree k) ≡ Ok (ring_name k)
 unfolding name_at
 name_again place k lt = rw (name_form k lt, new_name k lt) refl
 
-switch_again : (place k : ℕ) → k < 128 → switch_at place (switches_of k) (switch_tree k) ≡ Ok (switches_of (k + 1))
+switch_again : (place k : ℕ) → k < most_switches → switch_at place (switches_of k) (switch_tree k) ≡ Ok (switches_of (k + 1))
 unfolding switch_at named_at
 switch_again place k lt =
     rw (
       name_again place k lt,
       length-map-range_with_len ring_name 0 k,
-      lt-ltb k 128 lt,
+      lt-ltb k most_switches lt,
       map-range_with_len_more ring_name 0 k k (omega arith),
       map-range_with_len_more {X = ℕ} (λ i. 64) 0 k k (omega arith),
     ) refl
 
-switches_again : (n : ℕ) → n ≤ 128 → switches_in no_network (topology_tree n) ≡ Ok (switches_of n)
+switches_again : (n : ℕ) → n ≤ most_switches → switches_in no_network (topology_tree n) ≡ Ok (switches_of n)
 unfolding switches_in topology_tree
-switches_again n few = rw (list_of-items_of (map switch_tree (numbers_below n))) (subst (λ (j : ℕ). in_turn switch_at 0 (switches_of 0) (map switch_tree (numbers_below n)) ≡ Ok (switches_of j)) (omega arith) (numbered_turns switch_at switch_tree switches_of 128 switch_again n 0 0 (omega arith)))
+switches_again n few = rw (list_of-items_of (map switch_tree (numbers_below n))) (subst (λ (j : ℕ). in_turn switch_at 0 (switches_of 0) (map switch_tree (numbers_below n)) ≡ Ok (switches_of j)) (omega arith) (numbered_turns switch_at switch_tree switches_of most_switches switch_again n 0 0 (omega arith)))
 
 -- ---- ports that aren't used
 
@@ -112,7 +113,7 @@ free_again net field place used text stop reads none few = rw (reads, none, lt-l
 abbrev links_of : ℕ → ℕ → Network
 links_of n k = record { names = map ring_name (numbers_below n); capacities = map (λ i. 64) (numbers_below n); links = map (ring_link n) (numbers_below k); hosts = []; vlans = []; tags = None }
 
-module _ (n place k : ℕ) (some : 4 ≤ n) (few : n ≤ 128) (lt : k < n) where
+module _ (n place k : ℕ) (some : 4 ≤ n) (few : n ≤ most_switches) (lt : k < n) where
   next_below : (k + 1) % n < n
   next_below = elim (next_cases n k lt) [ inl h ↦ omega (arith, h.0, h.1) | inr h ↦ omega (arith, h.1) ]
 
@@ -136,7 +137,7 @@ module _ (n place k : ℕ) (some : 4 ≤ n) (few : n ≤ 128) (lt : k < n) where
   unfolding link_at linked_at
   link_again = rw (first_free, second_free, map-range_with_len_more (ring_link n) 0 k k (omega arith)) refl
 
-links_again : (n : ℕ) → 4 ≤ n → n ≤ 128 → links_in (switches_of n) (topology_tree n) ≡ Ok (links_of n n)
+links_again : (n : ℕ) → 4 ≤ n → n ≤ most_switches → links_in (switches_of n) (topology_tree n) ≡ Ok (links_of n n)
 unfolding links_in topology_tree
 links_again n some few =
     rw (list_of-items_of (map (link_tree n) (numbers_below n)))
@@ -149,7 +150,7 @@ links_again n some few =
 abbrev hosts_of : ℕ → ℕ → Network
 hosts_of n k = record { names = map ring_name (numbers_below n); capacities = map (λ i. 64) (numbers_below n); links = map (ring_link n) (numbers_below n); hosts = map (λ i. ring_stop i 1) (numbers_below k); vlans = []; tags = None }
 
-module _ (n place k : ℕ) (few : n ≤ 128) (lt : k < n) where
+module _ (n place k : ℕ) (few : n ≤ most_switches) (lt : k < n) where
   host_free : free_port (hosts_of n k) Hosts place (used_ports (hosts_of n k)) (port_text k 1) ≡ Ok (ring_stop k 1)
   host_free =
       let none = none_append (stop_eq (ring_stop k 1)) (hosted 0 k) (linked n 0 n)
@@ -163,7 +164,7 @@ module _ (n place k : ℕ) (few : n ≤ 128) (lt : k < n) where
   unfolding host_at host_port_at
   host_again = rw (host_free, map-range_with_len_more (λ i. ring_stop i 1) 0 k k (omega arith)) refl
 
-hosts_again : (n : ℕ) → n ≤ 128 → hosts_in (links_of n n) (topology_tree n) ≡ Ok (hosts_of n n)
+hosts_again : (n : ℕ) → n ≤ most_switches → hosts_in (links_of n n) (topology_tree n) ≡ Ok (hosts_of n n)
 unfolding hosts_in topology_tree
 hosts_again n few =
     rw (list_of-items_of (map host_tree (numbers_below n)))
@@ -172,7 +173,7 @@ hosts_again n few =
 
 -- ---- the file
 
-ports_again : (n : ℕ) → 4 ≤ n → n ≤ 128 → ports_in (topology_tree n) ≡ Ok (hosts_of n n)
+ports_again : (n : ℕ) → 4 ≤ n → n ≤ most_switches → ports_in (topology_tree n) ≡ Ok (hosts_of n n)
 unfolding ports_in
 ports_again n some few = rw (switches_again n few, links_again n some few, hosts_again n few) refl
 
@@ -187,10 +188,10 @@ tags_again : (n : ℕ) → tags_in (vlans_of n) (topology_tree n) ≡ Ok (ring_n
 unfolding tags_in range_in topology_tree ring_network
 tags_again n = refl
 
-members_again : (n : ℕ) → 4 ≤ n → n ≤ 128 → members_in (topology_tree n) ≡ Ok (ring_network n)
+members_again : (n : ℕ) → 4 ≤ n → n ≤ most_switches → members_in (topology_tree n) ≡ Ok (ring_network n)
 unfolding members_in topology_tree
 members_again n some few = rw (ports_again n some few, vlans_again n, tags_again n) refl
 
-pub topology_again : (n : ℕ) (bytes : List ℕ) (d : Data) → 4 ≤ n → n ≤ 128 → d ≡ topology_tree n → tree_in bytes ≡ Some d → network_in bytes ≡ Ok (ring_network n)
+pub topology_again : (n : ℕ) (bytes : List ℕ) (d : Data) → 4 ≤ n → n ≤ most_switches → d ≡ topology_tree n → tree_in bytes ≡ Some d → network_in bytes ≡ Ok (ring_network n)
 unfolding network_in
 topology_again n bytes d some few is reads = rw (reads, is) (members_again n some few)

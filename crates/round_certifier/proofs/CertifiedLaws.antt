@@ -2,7 +2,7 @@
 use Rattle.std.proofs.Common.{◌≡◌, ℕ, suc, ◌<◌, ◌≤◌, Bool, false, List, length, IsTrue, refl, sym, ◌∙◌, subst, ap, inl, inr, arith}
 use Rattle.std.proofs.lemmas.Bool.{cases_lt}
 use Rattle.net_base.specs.Members.{IsIn}
-use Rattle.net_base.specs.Switches.{has}
+use Rattle.net_base.specs.Switches.{has, most_switches}
 use Rattle.net_base.specs.declared.ids.SwitchId.{SwitchId}
 use Rattle.net_base.proofs.MemberLaws.{each_at, each_from_in}
 use Rattle.std.specs.Prelude.{Option, Some, None, IfNone, IfSome}
@@ -62,7 +62,7 @@ when_some o x P some h = subst (λ y. IfSome y P) some h
 -- before the first round
 pub certified_none : (c : CaseView) → IsNetwork c.task.update.net → IsUserConfig c.task.update.net c.task.update.old → (classes : ClassList) → classes ≡ classes_for c.task
     → (store : StoreState) → store ≡ record { evidence = no_evidence; classes = class_count classes } → (came : List ℕ) → length came ≡ class_count classes
-    → ((n : ℕ) (s : SwitchId) → n < class_count classes → s.0 < 128 → IsTrue (has (marks_at came n) s)) → (looked : List Bool) → HasAtoms classes looked → IsCertifiedTo c 0 store came looked
+    → ((n : ℕ) (s : SwitchId) → n < class_count classes → s.0 < most_switches → IsTrue (has (marks_at came n) s)) → (looked : List Bool) → HasAtoms classes looked → IsCertifiedTo c 0 store came looked
 certified_none c net user classes are store empty came count all looked atoms = record {
   passed = λ j less. absurd (let f : j < 0 = less in omega arith);
   evidence = subst (λ (s : StoreState). HasEvidenceTo (target_for c.task) (rollout c.task) 0 s.evidence) (sym empty) (evidence_none (target_for c.task) (rollout c.task));

@@ -7,7 +7,7 @@ ghost use Rattle.update_model.specs.Mixtures.{Rollout, tables_before};
 ghost use Rattle.certificates.specs.Certified.{classes_for};
 ghost use Rattle.mixed_walks.specs.Walks.{IsRoundOf};
 ghost use Rattle.check_reasons.specs.AtomMarks.{AreTouched};
-ghost use Rattle.net_base.specs.Switches.{has};
+ghost use Rattle.net_base.specs.Switches.{has, most_switches};
 ghost use Rattle.evidence_store.specs.Stored.{IsStored, no_evidence};
 ghost use Rattle.round_judge.specs.Goals.{HasAtoms};
 ghost use Rattle.round_judge.specs.Judged.{IsReadyToJudge, IsNextRound, AreFirstJudged};
@@ -42,7 +42,7 @@ impl RoundEvidence {
         ensures few { IfOk result (λ _. class_count classes.now ≤ 8192) }
         ensures count { IfOk result (λ e. length e.watch.came.items ≡ class_count classes.now) }
         ensures each { IfOk result (λ e. (n : ℕ) (s : Switch) → n < class_count classes.now
-            → s.0 < 128 → IsTrue (has (marks_at e.watch.came.items n) s)) }
+            → s.0 < most_switches → IsTrue (has (marks_at e.watch.came.items n) s)) }
         ensures atoms { IfOk result (λ e. HasAtoms classes.now e.looked) }
     {
         let (looked, watch) = watch_rooms(alloc, classes)?;

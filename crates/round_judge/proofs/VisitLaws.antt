@@ -16,7 +16,7 @@ use Rattle.update_model.specs.declared.Change.{Change}
 use Rattle.certificates.specs.Ordered.{IsSafe}
 use Rattle.mixed_walks.specs.Walks.{TablesKeepVlans, KeepVlansUpTo}
 use Rattle.mixed_walks.proofs.PlaceLaws.{tables_keep}
-use Rattle.net_base.specs.Switches.{has}
+use Rattle.net_base.specs.Switches.{has, most_switches}
 use Rattle.class_watch.specs.Walks.{at_rest, HoldsWalks, HoldsTables, meets_any}
 use Rattle.class_watch.proofs.StandLaws as stand
 use Rattle.class_watch.proofs.StandLaws.{held_before, held_after, vlan_before, all_held}
@@ -130,7 +130,7 @@ module _ (to : Target) (u : Rollout) (k : ℕ) where
 
 -- where all switches are marked for each class
 pub all_come : (to : Target) (old : List (List Rule)) → IsNetwork to.net → IsUserConfig to.net old → to.classes.hosts ≡ to.net.hosts → (count : ℕ) → count ≡ class_count to.classes → (came : List ℕ)
-    → length came ≡ count → ((n : ℕ) (s : SwitchId) → n < count → s.0 < 128 → IsTrue (has (marks_at came n) s)) → HoldTables to old came
+    → length came ≡ count → ((n : ℕ) (s : SwitchId) → n < count → s.0 < most_switches → IsTrue (has (marks_at came n) s)) → HoldTables to old came
 all_come to old net user hosts count count_is came length_is all = record {
   count = length_is ∙ count_is;
   each = λ n class is.

@@ -2,7 +2,7 @@
 ghost use Rattle.std.specs.Prelude.{◌≡◌, ℕ, ◌<◌, length, IsTrue, IfOk};
 ghost use Rattle.net_base.specs.declared.ids.SwitchId.{SwitchId as Switch};
 ghost use Rattle.dest_classes.specs.Classes.{class_count};
-ghost use Rattle.net_base.specs.Switches.{has};
+ghost use Rattle.net_base.specs.Switches.{has, most_switches};
 ghost use Rattle.round_judge.specs.Goals.{HasAtoms};
 ghost use Rattle.round_judge.specs.Visits.{marks_at};
 
@@ -16,7 +16,7 @@ use std::alloc::Global;
 pub fn watch_rooms(alloc: Global, classes: &ClassMap) -> Result<(LookedAtoms, ClassWatch), Memory>
     ensures atoms { IfOk result (λ r. HasAtoms classes.now r.0) }
     ensures count { IfOk result (λ r. length r.1.came.items ≡ class_count classes.now) }
-    ensures each { IfOk result (λ r. (n : ℕ) (s : Switch) → n < class_count classes.now → s.0 < 128
+    ensures each { IfOk result (λ r. (n : ℕ) (s : Switch) → n < class_count classes.now → s.0 < most_switches
         → IsTrue (has (marks_at r.1.came.items n) s)) }
 {
     let looked = LookedAtoms::make(alloc, classes)?;

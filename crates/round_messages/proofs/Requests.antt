@@ -13,6 +13,7 @@ use Rattle.update_model.specs.declared.Change.{Change}
 use Rattle.update_model.specs.declared.Change.TheVariants.{Insert, Delete, Replace}
 use Rattle.openflow10.specs.Messages.{IsMessage, message_of}
 use Rattle.round_messages.specs.Requests.{Request, Sent, switch_numbered, switches_changed, is_changed, change_request, barrier_request, round_requests, requests_from, message_for, sent_for, sent_from}
+use Rattle.net_base.specs.Switches.{most_switches}
 
 -- the messages of requests in a row
 pub sent_from-append : (xid : ℕ) (rs ss : List Request) → sent_from xid (rs ++ ss) ≡ sent_from xid rs ++ sent_from (xid + length rs) ss
@@ -46,7 +47,7 @@ round_count net k round =
     let d = few_passed (is_changed round) (switch_count net) in
     omega (arith, a, b, c, d)
 
-pub request_count : (net : Network) (k : ℕ) (rounds : List (List Change)) → switch_count net ≤ 128 → length (requests_from net k rounds) ≤ sum_by length rounds + 128 * length rounds
+pub request_count : (net : Network) (k : ℕ) (rounds : List (List Change)) → switch_count net ≤ most_switches → length (requests_from net k rounds) ≤ sum_by length rounds + most_switches * length rounds
 request_count net k [] few = omega arith
 request_count net k (round ∷ rounds) few =
     let a = length-append (round_requests net k round) (requests_from net (suc k) rounds) in

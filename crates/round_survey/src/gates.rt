@@ -1,6 +1,6 @@
 //! Switches on walks that packets can't go round.
 ghost use Rattle.std.specs.Prelude.{◌≡◌, ◌↔◌, ◌<◌, ◌≤◌, ◌∷◌, true, drop, length, IsTrue, All, IfOk};
-ghost use Rattle.net_base.specs.Switches.{has};
+ghost use Rattle.net_base.specs.Switches.{has, most_switches};
 ghost use Rattle.acyclic_numbering.specs.Heights.{IsLower, number_of};
 ghost use Rattle.mixed_walks.specs.Walks.{WalkState};
 ghost use Rattle.round_survey.specs.Gates.{AreStepsOf, StaysAbove, IsGate, AreGates, AreBelow, IsMetFrom};
@@ -78,7 +78,7 @@ fn is_gate(numbers: &[u16], walk: &WalkRoom, switch: SwitchId) -> bool
 
 /// Puts a switch into a set of gates, if it is one.
 fn put_gate(set: &mut SwitchSet, numbers: &[u16], walk: &WalkRoom, switch: SwitchId)
-    requires near { switch.0 < 128 }
+    requires near { switch.0 < most_switches }
     requires so_far { AreGates numbers.now set.old walk.now }
     ensures { AreGates numbers.now set.new walk.now }
 {

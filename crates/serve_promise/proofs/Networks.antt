@@ -24,6 +24,7 @@ use Rattle.topology.proofs.GrowthLaws.{switch_kept, link_kept, host_kept, vlan_k
 use Rattle.topology_files.specs.declared.fault.NetFault.{NetFault}
 use Rattle.topology_files.specs.declared.fault.NetFault.TheVariants as fault
 use Rattle.topology_files.specs.Topology.{name_at, named_at, switch_at, switches_in, is_port_number, reference, free_port, two_texts, linked_at, link_at, links_in, host_port_at, host_at, hosts_in, vlan_id, vlan_with, new_vlan_at, vlan_at, vlans_in, range_of, is_range, range_in, tags_in, ports_in, members_in, network_in}
+use Rattle.net_base.specs.Switches.{most_switches}
 
 none_is : {A : Type 0} (o : Option A) → is_none o ≡ true → o ≡ None
 none_is None e = refl
@@ -33,7 +34,7 @@ none_is (Some x) e = absurd (let f : false ≡ true = e in cc)
 
 -- the name and the capacity of a new switch
 record IsNewSwitch (net : Network) (v : List ℕ × ℕ) : Type 0 where
-  room : length net.names < 128
+  room : length net.names < most_switches
   form : is_name v.0 ≡ true
   new : switch_named net.names v.0 ≡ None
   within : is_capacity v.1 ≡ true
@@ -51,12 +52,12 @@ name_shown place net d name e =
 named_shown : (place : ℕ) (net : Network) (d : Data) (v : List ℕ × ℕ) → named_at place net d ≡ Ok v → IsNewSwitch net v
 unfolding named_at
 named_shown place net d v e =
-    let (room, e1) = check_passed (nat_lt (length net.names) 128) (fault.TooMany field.Switches place) _ v e in
+    let (room, e1) = check_passed (nat_lt (length net.names) most_switches) (fault.TooMany field.Switches place) _ v e in
     let (name, read, e2) = bind_ok (name_at place net d) _ v e1 in
     let (capacity, there, e3) = need_passed (whole_at (codes "capacity") d) (fault.Shape field.Capacity place) _ v e2 in
     let (within, e4) = check_passed (is_capacity capacity) (fault.BadCapacity place) _ v e3 in
     let (form, new) = name_shown place net d name read in
-    subst (IsNewSwitch net) (ok_is {E = NetFault} (name, capacity) v e4) (record { room = ltb-true (length net.names) 128 room; form = form; new = new; within = within })
+    subst (IsNewSwitch net) (ok_is {E = NetFault} (name, capacity) v e4) (record { room = ltb-true (length net.names) most_switches room; form = form; new = new; within = within })
 
 switch_keeps : (place : ℕ) (net more : Network) (d : Data) → IsNetwork net → switch_at place net d ≡ Ok more → IsNetwork more
 unfolding switch_at

@@ -24,6 +24,7 @@ use Rattle.topology.specs.Growth.{with_switch, with_link, with_host, with_vlan}
 use Rattle.topology.specs.declared.net.Link.{Link}
 use Rattle.topology.specs.declared.net.End.{End}
 use Rattle.topology.specs.declared.net.End.TheVariants as at
+use Rattle.net_base.specs.Switches.{most_switches}
 
 -- ---- lists
 
@@ -133,7 +134,7 @@ not_named : (names : List (List ℕ)) (name : List ℕ) → switch_named names n
 not_named names name none i = false≢true (sym (none_passes (λ n. bytes_eq name n) names none) ∙ any_in (λ n. bytes_eq name n) name names i ((bytes_eq-Decides name name).1 refl))
 
 module _ (net : Network) (is : IsNetwork net) where
-  pub switch_kept : (name : List ℕ) (capacity : ℕ) → length net.names < 128 → is_name name ≡ true → switch_named net.names name ≡ None → is_capacity capacity ≡ true → IsNetwork (with_switch net name capacity)
+  pub switch_kept : (name : List ℕ) (capacity : ℕ) → length net.names < most_switches → is_name name ≡ true → switch_named net.names name ≡ None → is_capacity capacity ≡ true → IsNetwork (with_switch net name capacity)
   switch_kept name capacity room form new within =
       let more = length_push net.names name in
       let more_capacities = length_push net.capacities capacity in

@@ -11,6 +11,7 @@ use Rattle.net_base.specs.declared.ids.Vlan.TheVariants as vlan
 use Rattle.topology.specs.declared.net.Link.{Link}
 use Rattle.topology.specs.declared.net.End.{End}
 use Rattle.topology.specs.declared.net.End.TheVariants as at
+use Rattle.net_base.specs.Switches.{most_switches}
 
 -- the ids from the first to the last
 pub record TagRange : Type 0 where
@@ -136,7 +137,7 @@ is_capacity n = nat_le 1 n && nat_le n 8192
 -- what every network keeps
 pub record IsNetwork (net : Network) : Type 0 where
   pub same_count : length net.capacities ≡ length net.names
-  pub few : length net.names ≤ 128
+  pub few : length net.names ≤ most_switches
   pub names : IsDistinct net.names
   pub name_forms : AllByRecursion IsName net.names
   pub capacities : AllByRecursion (λ c. (1 ≤ c) × (c ≤ 8192)) net.capacities

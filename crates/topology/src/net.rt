@@ -7,6 +7,7 @@ ghost use Rattle.topology.specs.Growth.{no_network, with_switch, with_link, with
 ghost use Rattle.topology.specs.Ends.{IsPort};
 ghost use Rattle.topology.specs.Ends as seen;
 ghost use Rattle.topology.specs.declared.net.End.TheVariants as at;
+ghost use Rattle.net_base.specs.Switches.{most_switches};
 
 use crate::ports::Ports;
 use crate::switches::Switches;
@@ -94,7 +95,7 @@ impl Net {
     /// How many switches there are, at most 128.
     pub fn switches(&self) -> u32
         ensures value { result ≡ switch_count self.now }
-        ensures few { result ≤ 128 }
+        ensures few { result ≤ most_switches }
     {
         self.switches.len()
     }
@@ -226,7 +227,7 @@ impl Net {
 fn put_link(ends: &mut Ports, links: &mut Vec<Link>, a: Stop, b: Stop) -> Result<(), AllocError>
     requires a_free { list_any (stop_eq a) (map (λ p. p.0) ends.old) ≡ false }
     requires b_free { list_any (stop_eq b) (map (λ p. p.0) ends.old ++ a ∷ []) ≡ false }
-    requires within { (a.switch.0 < 128) × (b.switch.0 < 128) }
+    requires within { (a.switch.0 < most_switches) × (b.switch.0 < most_switches) }
     requires a_room { count_by (is_on a.switch) (map (λ p. p.0) ends.old) < 64 }
     requires b_room { count_by (is_on b.switch) (map (λ p. p.0) ends.old ++ a ∷ []) < 64 }
     ensures ends { OnOk result (ends.new
@@ -254,7 +255,7 @@ fn clear_ports(ends: &mut Ports, links: &mut Vec<Link>, hosts: &mut Vec<Stop>)
 /// Puts a host port, and what is there.
 fn put_host(ends: &mut Ports, hosts: &mut Vec<Stop>, stop: Stop) -> Result<(), AllocError>
     requires free { list_any (stop_eq stop) (map (λ p. p.0) ends.old) ≡ false }
-    requires within { stop.switch.0 < 128 }
+    requires within { stop.switch.0 < most_switches }
     requires room { count_by (is_on stop.switch) (map (λ p. p.0) ends.old) < 64 }
     ensures ends { OnOk result (ends.new ≡ ends.old ++ (stop, at.Host) ∷ []) }
     ensures hosts { OnOk result (hosts.new.items ≡ hosts.old.items ++ stop ∷ []) }
@@ -289,7 +290,7 @@ impl Net {
 
     /// Adds a switch by a name that no other one has, with the most table entries that it takes.
     pub fn add_switch(&mut self, alloc: Global, name: &str, capacity: u32) -> Result<(), AllocError>
-        requires room { length self.old.names < 128 }
+        requires room { length self.old.names < most_switches }
         requires form { is_name name.now ≡ true }
         requires new { switch_named self.old.names name.now ≡ None }
         requires capacity { is_capacity capacity ≡ true }

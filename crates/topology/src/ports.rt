@@ -4,10 +4,11 @@ ghost use Rattle.std.specs.List.{list_any};
 ghost use Rattle.std.specs.Map.{lookup};
 ghost use Rattle.topology.specs.Networks.{stop_eq, is_on};
 ghost use Rattle.topology.specs.declared.net.End.TheVariants as at;
+ghost use Rattle.net_base.specs.Switches.{most_switches};
 
 use crate::net::End;
 use indexmap::IndexMap;
-use net_base::{Stop, SwitchId};
+use net_base::{MAX_SWITCHES, Stop, SwitchId};
 use std::alloc::{AllocError, Global};
 use std::marker::Model;
 
@@ -16,7 +17,7 @@ use std::marker::Model;
 #[derive(Drop)]
 pub struct Ports {
     ends: IndexMap<Stop, End>,
-    counts: [u16; 128],
+    counts: [u16; MAX_SWITCHES as usize],
     slots: Vec<u16>,
 }
 
@@ -57,7 +58,7 @@ impl Ports {
     {
         Ports {
             ends: IndexMap::new(alloc),
-            counts: [0; 128],
+            counts: [0; MAX_SWITCHES as usize],
             slots: Vec::new(alloc),
         }
     }
@@ -106,7 +107,7 @@ impl Ports {
     /// Adds a port that isn't used.
     pub fn add(&mut self, stop: Stop, end: End) -> Result<(), AllocError>
         requires free { list_any (stop_eq stop) (map (λ p. p.0) self.old) ≡ false }
-        requires within { stop.switch.0 < 128 }
+        requires within { stop.switch.0 < most_switches }
         requires room { count_by (is_on stop.switch) (map (λ p. p.0) self.old) < 64 }
         ensures { OnOk result (self.new ≡ self.old ++ (stop, end) ∷ []) }
     {
@@ -121,6 +122,6 @@ impl Ports {
         ensures { self.new ≡ [] }
     {
         self.ends.clear();
-        self.counts = [0; 128];
+        self.counts = [0; MAX_SWITCHES as usize];
     }
 }

@@ -1,6 +1,7 @@
 //! The switches by name, numbered in the order of the file.
 ghost use Rattle.std.specs.Prelude.{◌≡◌, ◌<◌, ◌≤◌, ◌++◌, ◌∷◌, [], None, Some, length, option_map, slice_get, slice_index_or, IfSome, OnOk, OnErr};
 ghost use Rattle.topology.specs.Networks.{switch_named};
+ghost use Rattle.net_base.specs.Switches.{most_switches};
 
 use indexmap::IndexMap;
 use net_base::SwitchId;
@@ -16,12 +17,13 @@ pub struct Switches {
 impl Model for Switches {
     ghost use Rattle.std.specs.Prelude.{◌≤◌, length};
     ghost use Rattle.topology.specs.Named.{Named, named_entries};
+    ghost use Rattle.net_base.specs.Switches.{most_switches};
 
     ghost Value = { Named };
 
     ghost view = { λ s. named_entries s.capacities };
 
-    ghost invariant = { λ s. length (named_entries s.capacities).names ≤ 128 };
+    ghost invariant = { λ s. length (named_entries s.capacities).names ≤ most_switches };
 }
 
 impl Switches {
@@ -70,7 +72,7 @@ impl Switches {
 
     /// Adds a switch at the end.
     pub fn add(&mut self, alloc: Global, name: &str, capacity: u32) -> Result<(), AllocError>
-        requires room { length self.old.names < 128 }
+        requires room { length self.old.names < most_switches }
         requires new { switch_named self.old.names name.now ≡ None }
         ensures ok { OnOk result (self.new ≡ record {
           names = self.old.names ++ name.now ∷ [];

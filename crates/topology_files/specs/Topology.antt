@@ -17,6 +17,7 @@ use Rattle.topology_files.specs.declared.fault.NetFault.TheVariants.{NotJson, Sh
 use Rattle.topology.specs.Networks.{Network, TagRange, switch_named, used_ports, is_on, stop_eq, vlan_eq, is_name, is_capacity, is_vlan_id}
 use Rattle.topology.specs.Growth.{no_network, with_switch, with_link, with_host, with_vlan, with_tags}
 use Rattle.topology.specs.References.{reference_parts}
+use Rattle.net_base.specs.Switches.{most_switches}
 
 -- ---- switches
 
@@ -32,7 +33,7 @@ name_at place net d = do
 -- the name and the capacity of one item of `switches`
 unfoldable pub named_at : ℕ → Network → Data → Result (List ℕ × ℕ) NetFault
 named_at place net d = do
-  _ ← check (nat_lt (length net.names) 128) (TooMany Switches place)
+  _ ← check (nat_lt (length net.names) most_switches) (TooMany Switches place)
   name ← name_at place net d
   capacity ← need (whole_at (codes "capacity") d) (Shape Capacity place)
   _ ← check (is_capacity capacity) (BadCapacity place)

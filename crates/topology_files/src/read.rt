@@ -12,17 +12,15 @@ ghost use Rattle.topology.specs.Growth.{no_network};
 ghost use Rattle.topology.specs.Ends.{IsPort};
 ghost use Rattle.topology_files.specs.Beside.{beside_list};
 ghost use Rattle.topology_files.specs.Topology as topology;
+ghost use Rattle.net_base.specs.Switches.{most_switches};
 
 use crate::fault::NetFault;
 use crate::small::{is_capacity, is_name, is_range, range_at, vlan_id, vlan_with};
 use flat_json::{Node, Tree, parse_tree};
 use json::Scratch;
-use net_base::{Field, MAX_PORT, Port, Stop, Vlan, place_of};
+use net_base::{Field, MAX_PORT, MAX_SWITCHES, Port, Stop, Vlan, place_of};
 use std::alloc::Global;
 use topology::{Net, reference_parts};
-
-/// The most switches of a network.
-const MAX_SWITCHES: u32 = 128;
 
 /// The most used ports of a switch.
 const MAX_PORTS: usize = 64;
@@ -63,7 +61,7 @@ fn read_named<'t>(
 ) -> Result<(&'t str, u32), NetFault>
     ensures value { Gives Memory (λ s. (s.0.now, s.1)) result
         (topology.named_at place net.now (data_of tree.now item.now)) }
-    ensures room { OnOk result (length net.now.names < 128) }
+    ensures room { OnOk result (length net.now.names < most_switches) }
     ensures form { IfOk result (λ s. networks.is_name s.0.now ≡ true) }
     ensures new { IfOk result (λ s. switch_named net.now.names s.0.now ≡ None) }
     ensures capacity { IfOk result (λ s. networks.is_capacity s.1 ≡ true) }

@@ -8,6 +8,7 @@ ghost use Rattle.switch_session.specs.Channels.{after_byte, hello};
 ghost use Rattle.two_way_driver.specs.Peers.{first_peer, heard_by, peer_after};
 ghost use Rattle.two_way_driver.specs.Drivers.{with_said, log_if, send_if, sends, is_to_open, is_to, asks_if, next_if, asked_from, sent_out, settled_in, all_answered, settled_if_answered, change_notes, undo_notes, made_state, undone_state, carried_out, answered_state, opened_state, heard_state, fed_byte, first_driver, first_words, flagged_state, started_with, undone_with, turned_with, reopened_driver};
 ghost use Rattle.two_way_driver.specs.Inside.{state_of, FitsNext, heard_on, fed_on};
+ghost use Rattle.net_base.specs.Switches.{most_switches};
 
 use crate::legs::Leg;
 use crate::peers::{HELLO, Heard, Peer};
@@ -136,7 +137,7 @@ fn xid_behind(first: u32, changes: &[Change]) -> u32
 
 /// Each switch with a change in a round waits for the answer to its barrier request, of which the first has this xid.
 fn ask_all(peers: &mut Vec<Peer>, round: &[Change], first: u32)
-    requires { length peers.old.items ≤ 128 }
+    requires { length peers.old.items ≤ most_switches }
     ensures { peers.new.items ≡ asked_from first round.now 0 peers.old.items }
 {
     let mut xid = first;

@@ -39,6 +39,7 @@ use Rattle.update_driver.proofs.PieceLaws.{parts}
 use Rattle.update_driver.proofs.LogLaws.{log_is_run}
 use Rattle.update_driver.proofs.AskedLaws.{each_round_of}
 use Rattle.update_driver.proofs.StartLaws.{state_at, length-states, told_round}
+use Rattle.net_base.specs.Switches.{most_switches}
 
 -- what holds after both answers
 pub either : {T E A B : Type 0} (X : Type 0) (r : Result T E) → OnOk r A → OnErr r B → (A → X) → (B → X) → X
@@ -179,7 +180,7 @@ module _ (v : DriverView) (old : List SwitchStart) (xid : ℕ) (inv : IsDriver v
   first_is = inv.next ∙ ap (λ p. first_xid v.net v.rounds (begun_count p)) settled_is
 
   -- the xids are in range
-  pub few_xids : switch_count v.net ≤ 128 → xid + length round + switch_count v.net < 2 ^ 32
+  pub few_xids : switch_count v.net ≤ most_switches → xid + length round + switch_count v.net < 2 ^ 32
   few_xids few =
       let before = request_count v.net 0 (take k v.rounds) few in
       let count = length-take-le k v.rounds (omega arith) in
@@ -273,7 +274,7 @@ module _ (net : Network) (rounds : List (List Change)) (phase : Phase) (log : Li
 
   -- the next round may start with these changes
   module _ (round : List Change) (may : MayStartWith net rounds (states_of channels) phase round) where
-    pub start_few : switch_count net ≤ 128 → xid + length round + switch_count net < 2 ^ 32
+    pub start_few : switch_count net ≤ most_switches → xid + length round + switch_count net < 2 ^ 32
     start_few few = few_xids here turns xid inv may.k may.settled may.more (may.no_fault log) round may.round_is few
 
     module _ (list : List SwitchStart) (messages : (j : ℕ) → HoldMessages j (sent_from xid (round_requests net j round)) list) (events : HoldEvents round list) (count : length list ≡ switch_count net) (next : DriverState)

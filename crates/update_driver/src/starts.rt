@@ -5,7 +5,7 @@ ghost use Rattle.topology.specs.Networks.{switch_count};
 ghost use Rattle.update_model.specs.Ranges.{IsPlanChange};
 ghost use Rattle.update_model.specs.States.{phase_after_settle, settled_count};
 ghost use Rattle.update_driver.specs.Laws.{begun_count};
-ghost use Rattle.net_base.specs.Switches.{has};
+ghost use Rattle.net_base.specs.Switches.{has, most_switches};
 ghost use Rattle.round_messages.specs.Requests.{switch_numbered};
 ghost use Rattle.switch_session.specs.Channels.{first_channel, is_open};
 ghost use Rattle.update_driver.specs.Drivers.{none_outstanding, settled_if_answered, started_phase};
@@ -125,7 +125,7 @@ fn is_missing(channel: &Channel, is_changed: bool) -> bool
 
 /// The first of these switches that has no open session.
 fn first_not_open(channels: &[Channel], changed: SwitchSet) -> Option<SwitchId>
-    requires { length channels.now ≤ 128 }
+    requires { length channels.now ≤ most_switches }
     ensures { result
         ≡ find
         (λ s. not (is_open (slice_index_or (states_of channels.now) s.0 first_channel).session))
@@ -148,7 +148,7 @@ pub(crate) fn next_round<'a>(
     channels: &[Channel],
 ) -> Result<&'a [Change], StartFault>
     requires switches { length channels.now ≡ switch_count net.now }
-    requires few { switch_count net.now ≤ 128 }
+    requires few { switch_count net.now ≤ most_switches }
     requires plan { AllByRecursion (AllByRecursion (IsPlanChange net.now)) rounds.now }
     requires within { IsPhaseWithin rounds.now phase }
     ensures ok { IfOk result

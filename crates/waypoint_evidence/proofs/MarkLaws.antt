@@ -5,30 +5,30 @@ use Rattle.std.proofs.lemmas.List.{ext_get_or, get_or-set_same, get_or-set_other
 use Rattle.std.proofs.lemmas.List.FromFn.{length-map-range_with_len, get_or-map-range_with_len}
 use Rattle.std.specs.Int.{bit_at}
 use Rattle.net_base.specs.declared.ids.SwitchId.{SwitchId}
-use Rattle.net_base.specs.Switches.{has}
+use Rattle.net_base.specs.Switches.{has, most_switches}
 use Rattle.waypoint_evidence.specs.Befores.{marks_in, marked_from}
 
-pub length_marks : (bits : ℕ) → length (marks_in bits) ≡ 128
+pub length_marks : (bits : ℕ) → length (marks_in bits) ≡ most_switches
 unfolding marks_in
-length_marks bits = length-map-range_with_len (λ n. bit_at bits n == 1) 0 128
+length_marks bits = length-map-range_with_len (λ n. bit_at bits n == 1) 0 most_switches
 
-pub mark_at : (bits n : ℕ) → n < 128 → get_or (marks_in bits) n false ≡ (bit_at bits n == 1)
+pub mark_at : (bits n : ℕ) → n < most_switches → get_or (marks_in bits) n false ≡ (bit_at bits n == 1)
 unfolding marks_in
-mark_at bits n less = get_or-map-range_with_len (λ n. bit_at bits n == 1) 0 128 n n false less (omega arith)
+mark_at bits n less = get_or-map-range_with_len (λ n. bit_at bits n == 1) 0 most_switches n n false less (omega arith)
 
 -- marks of which each is as in a list of so many
-pub marks_are : (bits : ℕ) (marks : List Bool) → length marks ≡ 128 → ((n : ℕ) → n < 128 → (bit_at bits n == 1) ≡ get_or marks n false) → marks_in bits ≡ marks
+pub marks_are : (bits : ℕ) (marks : List Bool) → length marks ≡ most_switches → ((n : ℕ) → n < most_switches → (bit_at bits n == 1) ≡ get_or marks n false) → marks_in bits ≡ marks
 marks_are bits marks len each =
-    ext_get_or false (marks_in bits) marks (length_marks bits ∙ sym len) (λ n less. let within : n < 128 = subst (λ l. n < l) (length_marks bits) less in mark_at bits n within ∙ each n within)
+    ext_get_or false (marks_in bits) marks (length_marks bits ∙ sym len) (λ n less. let within : n < most_switches = subst (λ l. n < l) (length_marks bits) less in mark_at bits n within ∙ each n within)
 
 -- no switch has a mark
 pub none_marked : (bits : ℕ) → ((s : SwitchId) → has bits s ≡ false) → marked_from 0 (marks_in bits) ≡ []
 none_marked bits none =
     ap (λ (marks : List Bool). marked_from 0 marks)
-    (marks_are bits (replicate 128 false) refl (λ n less. none (record { 0 = n }) ∙ sym (get_or-replicate 128 n false false less)))
+    (marks_are bits (replicate most_switches false) refl (λ n less. none (record { 0 = n }) ∙ sym (get_or-replicate most_switches n false false less)))
 
 -- one more switch has a mark
-pub one_more : (old new : ℕ) (s : SwitchId) → s.0 < 128 → IsTrue (has new s) → ((t : SwitchId) → t.0 ≢ s.0 → has new t ≡ has old t) → marks_in new ≡ set (marks_in old) s.0 true
+pub one_more : (old new : ℕ) (s : SwitchId) → s.0 < most_switches → IsTrue (has new s) → ((t : SwitchId) → t.0 ≢ s.0 → has new t ≡ has old t) → marks_in new ≡ set (marks_in old) s.0 true
 one_more old new s within there others =
     let m = s.0 in
     marks_are new (set (marks_in old) m true) (length-set (marks_in old) m true ∙ length_marks old) (λ n less. elim (cases_eq n m) [
@@ -38,7 +38,7 @@ one_more old new s within there others =
     ])
 
 -- the marks that were read so far are those of the bits
-pub list_more : (bits n : ℕ) (marks : List Bool) → n < 128 → length marks ≡ 128 → ((k : ℕ) → k < n → get_or marks k false ≡ (bit_at bits k == 1))
+pub list_more : (bits n : ℕ) (marks : List Bool) → n < most_switches → length marks ≡ most_switches → ((k : ℕ) → k < n → get_or marks k false ≡ (bit_at bits k == 1))
     → (k : ℕ) → k < n + 1 → get_or (set marks n (bit_at bits n == 1)) k false ≡ (bit_at bits k == 1)
 list_more bits n marks less len so_far k within = elim (cases_eq k n) [
   | inl e ↦ subst (λ m. get_or (set marks n (bit_at bits n == 1)) m false ≡ (bit_at bits m == 1)) (sym e) (get_or-set_same marks n (bit_at bits n == 1) false (subst (λ l. n < l) (sym len) less))

@@ -5,10 +5,11 @@ use Rattle.std.specs.List.{range_with_len}
 use Rattle.net_base.specs.Members.{IsIn}
 use Rattle.net_base.specs.declared.ids.SwitchId.{SwitchId}
 use Rattle.acyclic_numbering.specs.declared.Edge.{Edge}
+use Rattle.net_base.specs.Switches.{most_switches}
 
 -- for each number below 128 whether its bit is set
 unfoldable pub marks_in : ℕ → List Bool
-marks_in bits = map (λ n. bit_at bits n == 1) (range_with_len 0 128)
+marks_in bits = map (λ n. bit_at bits n == 1) (range_with_len 0 most_switches)
 
 -- the places that are marked, counted from a number
 abbrev pub marked_from : ℕ → List Bool → List ℕ

@@ -9,6 +9,7 @@ ghost use Rattle.net_base.specs.declared.ids.SwitchId.{SwitchId};
 ghost use Rattle.waypoint_evidence.specs.Befores.{marked_from, Holds, HoldsEarlier, IsFirst, IsBeforeSet, IsGuard, Stays, MissesStep};
 ghost use Rattle.waypoint_evidence.specs.Grown.{AreChained, IsGrown, IsKnown, IsWalkTo, IsBefored};
 ghost use Rattle.acyclic_numbering.specs.Heights.{IsEdge};
+ghost use Rattle.net_base.specs.Switches.{most_switches};
 
 mod marks;
 
@@ -52,10 +53,10 @@ impl Before {
 
     /// Adds a switch.
     pub fn put(&mut self, s: SwitchId)
-        requires { s.0 < 128 }
+        requires { s.0 < most_switches }
         ensures holds { (t : SwitchId) → Holds self.new t ↔ ((t ≡ s) ⊎ Holds self.old t) }
         ensures more { ¬ Holds self.old s → length self.new ≡ length self.old + 1 }
-        ensures most { length self.new ≤ 128 }
+        ensures most { length self.new ≤ most_switches }
         ensures last { AllByRecursion (λ t. t < s.0) self.old → self.new ≡ self.old ++ s.0 ∷ [] }
     {
         self.switches.put(s);
@@ -73,14 +74,14 @@ impl Before {
     /// For each number below 128 whether the switch of that number is in the set.
     pub fn marks(&self) -> [bool; 128]
         ensures value { marked_from 0 result ≡ self.now }
-        ensures len { length result ≡ 128 }
+        ensures len { length result ≡ most_switches }
     {
         marks_of(self.switches)
     }
 
     /// Whether the set holds a switch.
     pub fn holds(&self, s: SwitchId) -> bool
-        requires { s.0 < 128 }
+        requires { s.0 < most_switches }
         ensures { IsTrue result ↔ Holds self.now s }
     {
         self.switches.has(s)
@@ -89,7 +90,7 @@ impl Before {
 
 /// Whether the set of the position before holds a switch.
 fn holds_earlier(earlier: Option<&Before>, s: SwitchId) -> bool
-    requires { s.0 < 128 }
+    requires { s.0 < most_switches }
     ensures { IsTrue result ↔ HoldsEarlier (option_copied earlier.entry) s }
 {
     match earlier {
@@ -101,7 +102,7 @@ fn holds_earlier(earlier: Option<&Before>, s: SwitchId) -> bool
 /// Whether the edge goes to the waypoint from outside the set of the position before, if there is one. The switch that it
 /// leaves is below 128.
 pub fn meets(edge: Edge, waypoint: SwitchId, earlier: Option<&Before>) -> bool
-    requires { edge.from.0 < 128 }
+    requires { edge.from.0 < most_switches }
     ensures { IsTrue result ↔ ((¬ HoldsEarlier (option_copied earlier.entry) edge.from)
         × (edge.to ≡ waypoint)) }
 {
@@ -110,7 +111,7 @@ pub fn meets(edge: Edge, waypoint: SwitchId, earlier: Option<&Before>) -> bool
 
 /// Whether the set is not left by the edge, or only to the waypoint.
 fn stays(before: &Before, edge: Edge, waypoint: SwitchId, earlier: Option<&Before>) -> bool
-    requires { (edge.from.0 < 128) × (edge.to.0 < 128) }
+    requires { (edge.from.0 < most_switches) × (edge.to.0 < most_switches) }
     ensures { IsTrue result ↔ Stays before.now waypoint (option_copied earlier.entry) edge }
 {
     !before.holds(edge.from) || before.holds(edge.to) || meets(edge, waypoint, earlier)
@@ -123,7 +124,7 @@ fn way_out(
     waypoint: SwitchId,
     earlier: Option<&Before>,
 ) -> Option<Edge>
-    requires { All (λ e. (e.from.0 < 128) × (e.to.0 < 128)) edges.now }
+    requires { All (λ e. (e.from.0 < most_switches) × (e.to.0 < most_switches)) edges.now }
     ensures { MatchOption result (All (Stays before.now waypoint (option_copied earlier.entry))
         edges.now) (λ e. IsIn e edges.now
         × ¬ Stays before.now waypoint (option_copied earlier.entry) e) }
@@ -138,7 +139,7 @@ fn way_out(
 
 /// The first of the switches that the set holds.
 fn first_held(before: &Before, switches: &[SwitchId]) -> Option<SwitchId>
-    requires { All (λ s. s.0 < 128) switches.now }
+    requires { All (λ s. s.0 < most_switches) switches.now }
     ensures { MatchOption result (All (λ s. ¬ Holds before.now s) switches.now)
         (λ s. IsIn s switches.now × Holds before.now s) }
 {
@@ -164,7 +165,7 @@ pub fn begins(
     waypoint: SwitchId,
     earlier: Option<&Before>,
 ) -> bool
-    requires { start.0 < 128 }
+    requires { start.0 < most_switches }
     ensures { IsTrue result ↔ (Holds before.now start
         ⊎ (IsFirst (option_copied earlier.entry) × (start ≡ waypoint))) }
 {
@@ -173,7 +174,7 @@ pub fn begins(
 
 /// Whether each edge stays in the set, or goes from outside the set before to the waypoint.
 fn all_stay(before: &Before, edges: &[Edge], waypoint: SwitchId, earlier: Option<&Before>) -> bool
-    requires { All (λ e. (e.from.0 < 128) × (e.to.0 < 128)) edges.now }
+    requires { All (λ e. (e.from.0 < most_switches) × (e.to.0 < most_switches)) edges.now }
     ensures { IsTrue result ↔ All (Stays before.now waypoint (option_copied earlier.entry))
         edges.now }
 {
@@ -185,7 +186,7 @@ fn all_stay(before: &Before, edges: &[Edge], waypoint: SwitchId, earlier: Option
 
 /// Whether the set holds none of the switches.
 fn holds_none(before: &Before, switches: &[SwitchId]) -> bool
-    requires { All (λ s. s.0 < 128) switches.now }
+    requires { All (λ s. s.0 < most_switches) switches.now }
     ensures { IsTrue result ↔ All (λ s. ¬ Holds before.now s) switches.now }
 {
     match first_held(before, switches) {
@@ -202,8 +203,8 @@ fn is_before_set(
     waypoint: SwitchId,
     earlier: Option<&Before>,
 ) -> bool
-    requires start { start.0 < 128 }
-    requires edges { All (λ e. (e.from.0 < 128) × (e.to.0 < 128)) edges.now }
+    requires start { start.0 < most_switches }
+    requires edges { All (λ e. (e.from.0 < most_switches) × (e.to.0 < most_switches)) edges.now }
     ensures { IsTrue result ↔ IsBeforeSet start (IsEdge edges.now) waypoint
         (option_copied earlier.entry) before.now }
 {
@@ -220,9 +221,9 @@ pub fn closed(
     waypoint: SwitchId,
     earlier: Option<&Before>,
 ) -> bool
-    requires start { start.0 < 128 }
-    requires edges { All (λ e. (e.from.0 < 128) × (e.to.0 < 128)) edges.now }
-    requires leaving { All (λ s. s.0 < 128) leaving.now }
+    requires start { start.0 < most_switches }
+    requires edges { All (λ e. (e.from.0 < most_switches) × (e.to.0 < most_switches)) edges.now }
+    requires leaving { All (λ s. s.0 < most_switches) leaving.now }
     ensures { IsTrue result ↔ IsGuard start (IsEdge edges.now) (λ s. IsIn s leaving.now) waypoint
         (option_copied earlier.entry) before.now }
 {
@@ -240,8 +241,8 @@ fn grow(
     earlier: Option<&Before>,
 ) -> Result<Vec<Edge>, Memory>
     requires empty { before.old ≡ [] }
-    requires start { start.0 < 128 }
-    requires edges { All (λ e. (e.from.0 < 128) × (e.to.0 < 128)) edges.now }
+    requires start { start.0 < most_switches }
+    requires edges { All (λ e. (e.from.0 < most_switches) × (e.to.0 < most_switches)) edges.now }
     ensures grown { IfOk result (λ steps. IsGrown start
         (MissesStep (IsEdge edges.now) waypoint (option_copied earlier.entry)) steps.items
         before.new) }
@@ -295,7 +296,7 @@ pub fn before_set(
     waypoint: SwitchId,
     earlier: Option<&Before>,
 ) -> Result<Befored, Memory>
-    requires switches { switches ≤ 128 }
+    requires switches { switches ≤ most_switches }
     requires start { start.0 < switches }
     requires edges { All (λ e. (e.from.0 < switches) × (e.to.0 < switches)) edges.now }
     requires leaving { All (λ s. s.0 < switches) leaving.now }

@@ -7,6 +7,7 @@ use Rattle.waypoint_evidence.specs.Befores.{Holds, MissesStep}
 use Rattle.waypoint_evidence.specs.Grown.{IsGrown}
 use Rattle.waypoint_evidence.proofs.GrowLaws.{grown_start, grown_more, not_stays, all_members}
 use Rattle.waypoint_evidence.proofs.grow.Goals as goal
+use Rattle.net_base.specs.Switches.{most_switches}
 
 pub growing-init : goal.growing-init
 growing-init c =
@@ -17,7 +18,7 @@ growing-init c =
 
 pub put-requires-in-Some : goal.put-requires-in-Some
 put-requires-in-Some c =
-    (all_members (λ (e : Edge). (e.from.0 < 128) × (e.to.0 < 128)) c.args.edges.now c.requires.edges c.in-Some.edge c.in-Some.ensures.0).1
+    (all_members (λ (e : Edge). (e.from.0 < most_switches) × (e.to.0 < most_switches)) c.args.edges.now c.requires.edges c.in-Some.edge c.in-Some.ensures.0).1
 
 pub growing-preserved : goal.growing-preserved
 growing-preserved c =

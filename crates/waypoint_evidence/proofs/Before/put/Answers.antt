@@ -6,11 +6,12 @@ use Rattle.waypoint_evidence.specs.Befores.{Holds, marked_from, marks_in}
 use Rattle.waypoint_evidence.proofs.MarkLaws.{length_marks, one_more}
 use Rattle.waypoint_evidence.proofs.SetLaws.{marked-set, length-marked_set, length-marked, not_marked, marked-set_last}
 use Rattle.waypoint_evidence.proofs.Before.put.Goals as goal
+use Rattle.net_base.specs.Switches.{most_switches}
 
 pub returns-clause-holds : goal.returns-clause-holds
 returns-clause-holds c t =
     let marks = marks_in c.self.inside.switches in
-    let len : length marks ≡ 128 = length_marks c.self.inside.switches in
+    let len : length marks ≡ most_switches = length_marks c.self.inside.switches in
     let more = one_more c.self.inside.switches c.put.new.self c.args.s c.requires c.put.ensures.there c.put.ensures.others in
     let within : c.args.s.0 < length marks = subst (λ n. c.args.s.0 < n) (sym len) c.requires in
     let is = subst (λ (new : List Bool). IsIn t.0 (marked_from 0 new) ↔ ((t.0 ≡ c.args.s.0) ⊎ IsIn t.0 (marked_from 0 marks))) (sym more) (marked-set marks c.args.s.0 t.0 within) in (
@@ -27,7 +28,7 @@ returns-clause-holds c t =
 pub returns-clause-more : goal.returns-clause-more
 returns-clause-more c fresh =
     let marks = marks_in c.self.inside.switches in
-    let len : length marks ≡ 128 = length_marks c.self.inside.switches in
+    let len : length marks ≡ most_switches = length_marks c.self.inside.switches in
     let more = one_more c.self.inside.switches c.put.new.self c.args.s c.requires c.put.ensures.there c.put.ensures.others in
     let within : c.args.s.0 < length marks = subst (λ n. c.args.s.0 < n) (sym len) c.requires in
     ap (λ (new : List Bool). length (marked_from 0 new)) more
@@ -40,7 +41,7 @@ returns-clause-most c = subst (λ n. length (marked_from 0 (marks_in c.put.new.s
 pub returns-clause-last : goal.returns-clause-last
 returns-clause-last c below =
     let marks = marks_in c.self.inside.switches in
-    let len : length marks ≡ 128 = length_marks c.self.inside.switches in
+    let len : length marks ≡ most_switches = length_marks c.self.inside.switches in
     let more = one_more c.self.inside.switches c.put.new.self c.args.s c.requires c.put.ensures.there c.put.ensures.others in
     let within : c.args.s.0 < length marks = subst (λ n. c.args.s.0 < n) (sym len) c.requires in
     let same : c.args.s.0 ≡ 0 + c.args.s.0 = omega arith in

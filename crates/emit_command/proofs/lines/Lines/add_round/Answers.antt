@@ -7,6 +7,7 @@ use Rattle.round_messages.specs.Requests.{switches_changed, change_request, barr
 use Rattle.emit_command.proofs.Adding.{added_then}
 use Rattle.emit_command.proofs.Marks.{changed_added}
 use Rattle.emit_command.proofs.lines.Lines.add_round.Goals as goal
+use Rattle.net_base.specs.Switches.{most_switches}
 
 pub add_barriers-requires-clause-xids : goal.add_barriers-requires-clause-xids
 add_barriers-requires-clause-xids c =
@@ -15,7 +16,7 @@ add_barriers-requires-clause-xids c =
 
 pub changed_switches-changed-requires : goal.changed_switches-changed-requires
 changed_switches-changed-requires c =
-    each_weaker (IsPlanChange c.args.net.now) (λ d. (switch_of d).0 < 128) (λ d is. let few = c.keeps_rules.ensures.few in let within = is.switch in omega arith) c.args.changes.now c.requires.plan
+    each_weaker (IsPlanChange c.args.net.now) (λ d. (switch_of d).0 < most_switches) (λ d is. let few = c.keeps_rules.ensures.few in let within = is.switch in omega arith) c.args.changes.now c.requires.plan
 
 pub returns : goal.returns
 returns c =

@@ -5,6 +5,7 @@ use Rattle.net_base.proofs.NameLaws.{same_switch}
 use Rattle.mixed_walks.specs.Marked.{IsMarked, switch_number}
 use Rattle.mixed_walks.proofs.MarkedLaws.{read_mark, marked_put, room_for, in_push, in_still, marked_member}
 use Rattle.mixed_walks.proofs.marked.WalkedSwitches.put.Goals as goal
+use Rattle.net_base.specs.Switches.{most_switches}
 
 pub push_reserved-requires : goal.push_reserved-requires
 push_reserved-requires c =
@@ -12,7 +13,7 @@ push_reserved-requires c =
     let marks = c.self.inside.marks.items in
     let s = c.args.switch in
     let within : s.0 < length marks = let n = c.self.invariant.count in let r = c.requires in omega arith in
-    let room = room_for switch_number 128 list.items (vec_capacity list) marks c.self.invariant s c.requires (read_mark marks s.0 c.index.result.now within c.index.ensures ∙ c.if-not-index.true) in
+    let room = room_for switch_number most_switches list.items (vec_capacity list) marks c.self.invariant s c.requires (read_mark marks s.0 c.index.result.now within c.index.ensures ∙ c.if-not-index.true) in
     let len = list.ok.0 in
     omega arith
 
@@ -24,8 +25,8 @@ invariant_of-self c =
     let within : s.0 < length marks = let n = c.self.invariant.count in let r = c.requires in omega arith in
     let unmarked : get_or marks s.0 false ≡ false = read_mark marks s.0 c.index.result.now within c.index.ensures ∙ c.if-not-index.true in
     let room : vec_capacity list ≤ vec_capacity c.push_reserved.new.self = let e = c.push_reserved.ensures.capacity in omega arith in
-    subst (λ (xs : List SwitchId). IsMarked switch_number 128 xs (vec_capacity c.push_reserved.new.self) (set marks s.0 true)) (sym c.push_reserved.ensures.items)
-    (marked_put switch_number 128 list.items (vec_capacity list) marks c.self.invariant s c.requires unmarked (vec_capacity c.push_reserved.new.self) room)
+    subst (λ (xs : List SwitchId). IsMarked switch_number most_switches xs (vec_capacity c.push_reserved.new.self) (set marks s.0 true)) (sym c.push_reserved.ensures.items)
+    (marked_put switch_number most_switches list.items (vec_capacity list) marks c.self.invariant s c.requires unmarked (vec_capacity c.push_reserved.new.self) room)
 
 pub returns-then-not-index : goal.returns-then-not-index
 returns-then-not-index c s =
@@ -40,5 +41,5 @@ returns-else-not-index c s =
     let t = c.args.switch in
     let within : t.0 < length marks = let n = c.self.invariant.count in let r = c.requires in omega arith in
     let is_in : IsIn t list.items =
-    marked_member switch_number 128 list.items (vec_capacity list) marks c.self.invariant t (λ y i e. same_switch t y e) (read_mark marks t.0 c.index.result.now within c.index.ensures ∙ c.if-not-index.false) in
+    marked_member switch_number most_switches list.items (vec_capacity list) marks c.self.invariant t (λ y i e. same_switch t y e) (read_mark marks t.0 c.index.result.now within c.index.ensures ∙ c.if-not-index.false) in
     in_still c.args.self.now t s (subst (λ (xs : List SwitchId). IsIn t xs) c.self.view_is is_in)

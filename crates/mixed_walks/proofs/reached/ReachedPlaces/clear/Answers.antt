@@ -4,11 +4,12 @@ use Rattle.net_base.proofs.ItemLaws.{in_at}
 use Rattle.mixed_walks.specs.Marked.{IsPlaceList}
 use Rattle.mixed_walks.proofs.SlotLaws.{AreEmptied, place_near, places_cleared}
 use Rattle.mixed_walks.proofs.reached.ReachedPlaces.clear.Goals as goal
+use Rattle.net_base.specs.Switches.{most_switches}
 
 pub empty_slots-requires-clause-near : goal.empty_slots-requires-clause-near
 empty_slots-requires-clause-near c =
     let places = c.self.inside.places in
-    subst (λ (xs : List Place). (k : ℕ) (d : Place) → k < length xs → (get_or xs k d).switch.0 < 128) (sym c.deref.ensures.value) (λ k d within.
+    subst (λ (xs : List Place). (k : ℕ) (d : Place) → k < length xs → (get_or xs k d).switch.0 < most_switches) (sym c.deref.ensures.value) (λ k d within.
     place_near places.items (vec_capacity places) c.self.inside.slots.items c.self.inside.switches c.self.invariant (get_or places.items k d) (in_at places.items k d within))
 
 pub invariant_of-self : goal.invariant_of-self
