@@ -16,6 +16,7 @@ ghost use Rattle.check_reasons.specs.Reasons.{class_duties};
 ghost use Rattle.ordered_check.specs.Firsts.{IsFirstOfClass};
 ghost use Rattle.ordered_check.specs.Guarded.{HoldsGuarded};
 ghost use Rattle.ordered_check.specs.Judged.{IsWayRound, AreGuardedBelow, IsFirstWayRound};
+ghost use Rattle.mixed_walks.specs.Marked.{IsNear};
 ghost use Rattle.net_base.specs.Switches.{most_switches};
 
 use crate::cases::OrderedCase;
@@ -57,7 +58,7 @@ fn way_by_walks(
 ) -> Option<WayRound>
     requires class { IsNumbered (classes_for of.now.task) numbered }
     requires sets { All (λ i. i < length of.now.evidence.befores) shared.now.befores }
-    requires steps { All (λ e. (e.from.0 < most_switches) × (e.to.0 < most_switches)) walk.now.steps }
+    requires steps { All IsNear walk.now.steps }
     requires leaving { All (λ s. s.0 < most_switches) walk.now.leaving }
     requires entry { numbered.class.entry.switch.0 < most_switches }
     requires count { length shared.now.befores ≡ position_count
@@ -93,7 +94,7 @@ fn way_of_class(
     requires class { IsNumbered (classes_for of.now.task) numbered }
     requires shared { slice_get of.now.evidence.uses pick.shared ≡ Some shared.now }
     requires sets { All (λ i. i < length of.now.evidence.befores) shared.now.befores }
-    requires steps { All (λ e. (e.from.0 < most_switches) × (e.to.0 < most_switches)) walk.now.steps }
+    requires steps { All IsNear walk.now.steps }
     requires leaving { All (λ s. s.0 < most_switches) walk.now.leaving }
     requires entry { numbered.class.entry.switch.0 < most_switches }
     requires count { length shared.now.befores ≡ position_count

@@ -7,6 +7,7 @@ ghost use Rattle.acyclic_numbering.specs.Heights.{IsEdge};
 ghost use Rattle.waypoint_evidence.specs.Befores.{Holds};
 ghost use Rattle.check_reasons.specs.Least.{IsLeastOf};
 ghost use Rattle.ordered_check.specs.Judged.{HasEdgeUp, HasStray, Strays, IsWayRound};
+ghost use Rattle.mixed_walks.specs.Marked.{IsNear};
 ghost use Rattle.net_base.specs.Switches.{most_switches};
 
 use acyclic_numbering::{Edge, Numbering, lowers};
@@ -70,7 +71,7 @@ fn least_stray(
     waypoint: SwitchId,
     earlier: Option<&Before>,
 ) -> Option<SwitchId>
-    requires { All (λ e. (e.from.0 < most_switches) × (e.to.0 < most_switches)) steps.now }
+    requires { All IsNear steps.now }
     ensures { IsLeastOf (HasStray steps.now (record {
       waypoint = waypoint;
       earlier = option_copied earlier.entry;
@@ -98,7 +99,7 @@ pub(crate) fn least_way_round(
     earlier: Option<&Before>,
 ) -> Option<SwitchId>
     requires start { start.0 < most_switches }
-    requires steps { All (λ e. (e.from.0 < most_switches) × (e.to.0 < most_switches)) steps.now }
+    requires steps { All IsNear steps.now }
     requires leaving { All (λ s. s.0 < most_switches) leaving.now }
     ensures { IsLeastOf (IsWayRound start (IsEdge steps.now) (λ s. IsIn s leaving.now)
         (record { waypoint = waypoint; earlier = option_copied earlier.entry; set = set.now }))

@@ -8,6 +8,7 @@ ghost use Rattle.certificates.specs.Ordered.{chain_positions, positions};
 ghost use Rattle.dest_classes.specs.Numbered.{IsNumbered};
 ghost use Rattle.check_reasons.specs.Positions.{position_count, sets_of};
 ghost use Rattle.ordered_check.specs.Judged.{IsWayRound, AreGuardedBelow, IsFirstWayRound};
+ghost use Rattle.mixed_walks.specs.Marked.{IsNear};
 ghost use Rattle.net_base.specs.Switches.{most_switches};
 
 use crate::least::least_way_round;
@@ -35,7 +36,7 @@ fn way_round_chain(
     indices: &[u64],
 ) -> Option<WayRound>
     requires start { start.0 < most_switches }
-    requires steps { All (λ e. (e.from.0 < most_switches) × (e.to.0 < most_switches)) steps.now }
+    requires steps { All IsNear steps.now }
     requires leaving { All (λ s. s.0 < most_switches) leaving.now }
     requires indices { All (λ i. i < length befores.now) indices.now }
     requires enough { length chain.now ≤ length indices.now }
@@ -69,7 +70,7 @@ pub(crate) fn first_way_round(
     indices: &[u64],
 ) -> Option<WayRound>
     requires start { numbered.class.entry.switch.0 < most_switches }
-    requires steps { All (λ e. (e.from.0 < most_switches) × (e.to.0 < most_switches)) steps.now }
+    requires steps { All IsNear steps.now }
     requires leaving { All (λ s. s.0 < most_switches) leaving.now }
     requires number { numbered.number < class_count duties.now.classes }
     requires class { IsNumbered duties.now.classes numbered }

@@ -16,8 +16,8 @@ use std::alloc::Global;
 pub fn watch_rooms(alloc: Global, classes: &ClassMap) -> Result<(LookedAtoms, ClassWatch), Memory>
     ensures atoms { IfOk result (λ r. HasAtoms classes.now r.0) }
     ensures count { IfOk result (λ r. length r.1.came.items ≡ class_count classes.now) }
-    ensures each { IfOk result (λ r. (n : ℕ) (s : Switch) → n < class_count classes.now → s.0 < most_switches
-        → IsTrue (has (marks_at r.1.came.items n) s)) }
+    ensures each { IfOk result (λ r. (n : ℕ) (s : Switch) → n < class_count classes.now
+        → s.0 < most_switches → IsTrue (has (marks_at r.1.came.items n) s)) }
 {
     let looked = LookedAtoms::make(alloc, classes)?;
     let watch = ClassWatch::make(alloc, classes.count(), SwitchSet::all())?;

@@ -13,7 +13,8 @@ const MOST: u64 = MAX_SWITCHES as u64;
 
 /// The number of switches that the word spells.
 fn size_of(word: &str) -> Option<RingSize>
-    ensures { option_map (λ s. s.switches) result ≡ spelled.from_four (decimal_in word.now most_switches) }
+    ensures { option_map (λ s. s.switches) result
+        ≡ spelled.from_four (decimal_in word.now most_switches) }
 {
     let switches = read_decimal(word, MOST)?;
     if switches < FEWEST {
