@@ -50,11 +50,11 @@ use Rattle.two_way_driver.specs.declared.faults.CallFault.TheVariants as fault
 use Rattle.update_driver.specs.declared.StartFault.TheVariants as onward_fault
 use Rattle.two_way_driver.specs.declared.Stage.{Stage}
 use Rattle.two_way_driver.specs.declared.Stage.TheVariants.{Settled, Onward, Undone}
-use Rattle.two_way_driver.specs.declared.Logged.TheVariants as logged
-use Rattle.two_way_driver.specs.declared.Said.{Said}
-use Rattle.two_way_driver.specs.declared.Said.TheVariants.{Send, Failed as Fails, Log}
-use Rattle.two_way_driver.specs.declared.peers.Heard.{Heard}
-use Rattle.two_way_driver.specs.declared.peers.Heard.TheVariants.{Nothing, Opened, Answered, Replied}
+use Rattle.two_way_driver.specs.declared.DriverEvent.TheVariants as logged
+use Rattle.two_way_driver.specs.declared.DriverOutput.{DriverOutput}
+use Rattle.two_way_driver.specs.declared.DriverOutput.TheVariants.{Send, Failed as Fails, Log}
+use Rattle.two_way_driver.specs.declared.peers.ByteOutcome.{ByteOutcome}
+use Rattle.two_way_driver.specs.declared.peers.ByteOutcome.TheVariants.{Nothing, Opened, Answered, Replied}
 use Rattle.two_way_driver.proofs.ServingLaws.{length-asked}
 use Rattle.two_way_driver.proofs.SendingLaws.{texts-append, quiet, texts_open, changes_quiet, hello_first}
 use Rattle.driver_agreement.specs.Agreement.{two_way_call, Agree}
@@ -75,11 +75,11 @@ notes_are s i (c ∷ round) =
     chosen true = refl
     chosen false = refl
 
-more_events : (said words : List Said) (log more : List Event) → events_in said ≡ events_of log → events_in words ≡ events_of more → events_in (said ++ words) ≡ events_of (log ++ more)
+more_events : (said words : List DriverOutput) (log more : List Event) → events_in said ≡ events_of log → events_in words ≡ events_of more → events_in (said ++ words) ≡ events_of (log ++ more)
 more_events said words log more e f =
     filter_map-append event_in said words ∙ ap (λ l. l ++ events_in words) e ∙ ap (λ l. events_of log ++ l) f ∙ sym (map-append two_way.Onward log more)
 
-silent_words : (said words : List Said) (log : List Event) → events_in said ≡ events_of log → events_in words ≡ [] → events_in (said ++ words) ≡ events_of log
+silent_words : (said words : List DriverOutput) (log : List Event) → events_in said ≡ events_of log → events_in words ≡ [] → events_in (said ++ words) ≡ events_of log
 silent_words said words log e f = filter_map-append event_in said words ∙ ap (λ l. events_in said ++ l) f ∙ append-nil (events_in said) ∙ e
 
 sends_silent : (wanted : Outgoing → Bool) (ms : List Outgoing) → events_in (sends wanted ms) ≡ []
@@ -187,7 +187,7 @@ module _ (net : Network) (rounds inverses : List (List Change)) where
 
     came_is : fed_byte net rounds inverses s b e ≡ heard_state net rounds inverses s (cond (is_answered c.outstanding after.outstanding) Answered (unanswered_heard b c p (texts_to s e.said) h)) put
     unfolding fed_byte
-    came_is = ap (λ (x : Heard). heard_state net rounds inverses s x put) (heard_is b c p (texts_to s e.said) h)
+    came_is = ap (λ (x : ByteOutcome). heard_state net rounds inverses s x put) (heard_is b c p (texts_to s e.said) h)
 
     abbrev more : List ℕ
     more = (g b c p (texts_to s e.said) h).more
@@ -201,7 +201,7 @@ module _ (net : Network) (rounds inverses : List (List Change)) where
       d_is = cond-false (is_answered c.outstanding after.outstanding) (one.made_driver rounds s (with_channel s after d)) (with_channel s after d) none
 
       -- these words are said
-      worded : (words : List Said) (texts : List (List ℕ)) → texts_to s words ≡ texts → concat texts ≡ more → ((t : SwitchId) → s.0 ≢ t.0 → texts_to t words ≡ []) → events_in words ≡ []
+      worded : (words : List DriverOutput) (texts : List (List ℕ)) → texts_to s words ≡ texts → concat texts ≡ more → ((t : SwitchId) → s.0 ≢ t.0 → texts_to t words ≡ []) → events_in words ≡ []
           → Follows d_next (record put { said = e.said ++ words })
       worded words texts are is others events =
           follows_put d e f s within after q (with_channel s after d) (record put { said = e.said ++ words }) refl refl
@@ -209,7 +209,7 @@ module _ (net : Network) (rounds inverses : List (List Change)) where
           (λ t ne. quiet t e.said words (others t ne)) (silent_words e.said words d.log f.events events) refl refl refl
 
       unworded : more ≡ [] → Follows d_next put
-      unworded empty = subst (λ (l : List Said). Follows d_next (record put { said = l })) (append-nil e.said) (worded [] [] refl (sym empty) (λ t ne. refl) refl)
+      unworded empty = subst (λ (l : List DriverOutput). Follows d_next (record put { said = l })) (append-nil e.said) (worded [] [] refl (sym empty) (λ t ne. refl) refl)
 
       broken : (x : Session) → more ≡ [] → Follows d_next (heard_state net rounds inverses s (failure_in x) put)
       broken Waiting empty = unworded empty
@@ -227,7 +227,7 @@ module _ (net : Network) (rounds inverses : List (List Change)) where
       hears =
           let x = p.channel.sent in
           let text = drop (length x) (x ++ more) in
-          let Hears : Heard → Type 0 = λ y. Follows d_next (heard_state net rounds inverses s y put) in
+          let Hears : ByteOutcome → Type 0 = λ y. Follows d_next (heard_state net rounds inverses s y put) in
           let quiet_heard = cond (is_failed c.session) Nothing (failure_in after.session) in
           let none_more = more_none b c p (texts_to s e.said) h in
           cond_both (is_open after.session && not (is_open c.session)) Opened (cond (ltb (length x) (length (x ++ more))) (Replied text) quiet_heard) Hears opening

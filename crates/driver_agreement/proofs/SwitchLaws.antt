@@ -19,8 +19,8 @@ use Rattle.two_way_driver.specs.Peers.{first_peer, opened_anew, failure_in, hear
 use Rattle.two_way_driver.specs.Drivers.{all_answered}
 use Rattle.two_way_driver.specs.declared.Stage.{Stage}
 use Rattle.two_way_driver.specs.declared.Stage.TheVariants.{Settled, Onward, Undone}
-use Rattle.two_way_driver.specs.declared.peers.Heard.{Heard}
-use Rattle.two_way_driver.specs.declared.peers.Heard.TheVariants.{Nothing, Opened, Answered, Replied}
+use Rattle.two_way_driver.specs.declared.peers.ByteOutcome.{ByteOutcome}
+use Rattle.two_way_driver.specs.declared.peers.ByteOutcome.TheVariants.{Nothing, Opened, Answered, Replied}
 use Rattle.driver_agreement.proofs.ByteLaws.{with_sent, Grows, byte_grows}
 
 abbrev pub events_of : List Event → List two_way.TwoWayEvent
@@ -86,10 +86,10 @@ module _ (b : ℕ) (c : ChannelState) (p : PeerState) (texts : List (List ℕ)) 
   abbrev pub grown : ChannelState
   grown = with_sent a (x ++ g.more)
 
-  abbrev pub reply_heard : Heard
+  abbrev pub reply_heard : ByteOutcome
   reply_heard = cond (ltb (length x) (length (x ++ g.more))) (Replied (drop (length x) (x ++ g.more))) (cond (is_failed c.session) Nothing (failure_in a.session))
 
-  abbrev pub unanswered_heard : Heard
+  abbrev pub unanswered_heard : ByteOutcome
   unanswered_heard = cond (is_open a.session && not (is_open c.session)) Opened reply_heard
 
   pub heard_is : heard_by ch (after_byte b ch) ≡ cond (is_answered c.outstanding a.outstanding) Answered unanswered_heard

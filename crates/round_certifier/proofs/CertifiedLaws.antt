@@ -37,7 +37,7 @@ use Rattle.round_judge.specs.Evidence.{HasEvidenceTo, IsSearchEvidence}
 use Rattle.round_judge.specs.Judged.{IsReadyToJudge, IsNextRound, AreFirstJudged, AreSafeBelow, AreWithPicks}
 use Rattle.round_judge.specs.declared.judging.RoundVerdict.{RoundVerdict}
 use Rattle.round_judge.specs.Visits.{marks_at, HoldTables, HoldAfter}
-use Rattle.round_judge.specs.declared.judging.Found.{Found}
+use Rattle.round_judge.specs.declared.judging.FoundEvidence.{FoundEvidence}
 use Rattle.round_judge.proofs.VisitLaws.{all_come}
 use Rattle.round_judge.proofs.EvidenceLaws.{evidence_none, evidence_more, evidence_whole}
 use Rattle.round_certifier.specs.Standing.{target_for, ChangesPassTo, IsCertifiedTo}
@@ -121,7 +121,7 @@ module _ (c : CaseView) (ordered : is_two_phase c.evidence ≡ false) (k : ℕ) 
 
   -- after it
   pub certified_more : k < length c.task.rounds → (store new : StoreState) → HasEvidenceTo (target_for c.task) (rollout c.task) k store.evidence → store.classes ≡ class_count (classes_for c.task)
-      → (found : List Found) → AreSafeBelow (target_for c.task) (rollout c.task) store.evidence k (class_count (classes_for c.task)) found → (round : ℕ) → round ≡ suc k
+      → (found : List FoundEvidence) → AreSafeBelow (target_for c.task) (rollout c.task) store.evidence k (class_count (classes_for c.task)) found → (round : ℕ) → round ≡ suc k
       → AreWithPicks store.evidence round found new.evidence → new.classes ≡ store.classes → IsStored store.evidence → IsStored new.evidence
       → (came : List ℕ) → HoldTables (target_for c.task) (tables_before (rollout c.task) (suc k)) came → (looked : List Bool) → HasAtoms (classes_for c.task) looked → IsCertifiedTo c (suc k) new came looked
   certified_more within store new so_far classes found safe round number added same stored_old stored came held looked atoms = record {

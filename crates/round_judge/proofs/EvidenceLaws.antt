@@ -19,7 +19,7 @@ use Rattle.certificates.specs.declared.OrderedPick.{OrderedPick}
 use Rattle.certificates.specs.declared.OrderedEvidence.{OrderedEvidence}
 use Rattle.evidence_store.specs.Found.{IsSafeEvidence}
 use Rattle.evidence_store.specs.Stored.{IsStored, no_evidence}
-use Rattle.round_judge.specs.declared.judging.Found.{Found}
+use Rattle.round_judge.specs.declared.judging.FoundEvidence.{FoundEvidence}
 use Rattle.table_difference.specs.Targets.{Target}
 use Rattle.round_judge.specs.Goals.{duties_in}
 use Rattle.round_judge.specs.Evidence.{evidence_until, HasPick, IsLeastPick, IsSearchEvidence, IsCertifiedClass, HasEvidenceTo}
@@ -102,24 +102,24 @@ pub begun_before : (to : Target) (u : Rollout) (k : ℕ) (e : OrderedEvidence) �
 begun_before to u k e h = each_weaker (λ (p : OrderedPick). (0 < p.round) × (p.round ≤ k)) (λ (p : OrderedPick). p.round < suc k) (λ p in_rounds. let le = in_rounds.1 in omega arith) e.picks h.begun
 
 -- what is found later is of a greater class
-pub found_above : (h : Found) (found : List Found) → IsChain (λ (f g : Found). f.class < g.class) (h ∷ found) → (g : Found) → IsIn g found → h.class < g.class
+pub found_above : (h : FoundEvidence) (found : List FoundEvidence) → IsChain (λ (f g : FoundEvidence). f.class < g.class) (h ∷ found) → (g : FoundEvidence) → IsIn g found → h.class < g.class
 found_above h [] chain g i = absurd i
-found_above h (x ∷ found) chain g (inl e) = subst (λ (y : Found). h.class < y.class) (sym e) chain.0
+found_above h (x ∷ found) chain g (inl e) = subst (λ (y : FoundEvidence). h.class < y.class) (sym e) chain.0
 found_above h (x ∷ found) chain g (inr i) = let above = chain.0 in let rest = found_above x found chain.1 g i in omega arith
 
-pub chain_rest : (h : Found) (found : List Found) → IsChain (λ (f g : Found). f.class < g.class) (h ∷ found) → IsChain (λ (f g : Found). f.class < g.class) found
+pub chain_rest : (h : FoundEvidence) (found : List FoundEvidence) → IsChain (λ (f g : FoundEvidence). f.class < g.class) (h ∷ found) → IsChain (λ (f g : FoundEvidence). f.class < g.class) found
 chain_rest h [] chain = tt
 chain_rest h (x ∷ found) chain = chain.1
 
 -- two things found for one class are one
-found_once : (found : List Found) → IsChain (λ (f g : Found). f.class < g.class) found → (f g : Found) → IsIn f found → IsIn g found → f.class ≡ g.class → f ≡ g
+found_once : (found : List FoundEvidence) → IsChain (λ (f g : FoundEvidence). f.class < g.class) found → (f g : FoundEvidence) → IsIn f found → IsIn g found → f.class ≡ g.class → f ≡ g
 found_once [] chain f g i j e = absurd i
 found_once (h ∷ found) chain f g (inl a) (inl b) e = a ∙ sym b
-found_once (h ∷ found) chain f g (inl a) (inr j) e = absurd (let above = found_above h found chain g j in let same = ap (λ (x : Found). x.class) a in omega arith)
-found_once (h ∷ found) chain f g (inr i) (inl b) e = absurd (let above = found_above h found chain f i in let same = ap (λ (x : Found). x.class) b in omega arith)
+found_once (h ∷ found) chain f g (inl a) (inr j) e = absurd (let above = found_above h found chain g j in let same = ap (λ (x : FoundEvidence). x.class) a in omega arith)
+found_once (h ∷ found) chain f g (inr i) (inl b) e = absurd (let above = found_above h found chain f i in let same = ap (λ (x : FoundEvidence). x.class) b in omega arith)
 found_once (h ∷ found) chain f g (inr i) (inr j) e = found_once found (chain_rest h found chain) f g i j e
 
-module _ (to : Target) (u : Rollout) (net : u.net ≡ to.net) (last : ℕ) (within : last < length u.rounds) (e more : OrderedEvidence) (found : List Found)
+module _ (to : Target) (u : Rollout) (net : u.net ≡ to.net) (last : ℕ) (within : last < length u.rounds) (e more : OrderedEvidence) (found : List FoundEvidence)
     (so_far : HasEvidenceTo to u last e) (stored_old : IsStored e) (safe : AreSafeBelow to u e last (class_count to.classes) found)
     (added : AreWithPicks e (suc last) found more) (stored : IsStored more) where
   grows : Grows e more
@@ -180,15 +180,15 @@ module _ (to : Target) (u : Rollout) (net : u.net ≡ to.net) (last : ℕ) (with
         (λ p numbers sets i m. meant_until last more p numbers sets (meaning_there p numbers sets i m)) h
 
   -- what was found is of a class, and keeps it safe
-  found_safe : (f : Found) → IsIn f found → (class : Class) × IsClass to.classes f.class class × IsSafeEvidence u last class (duties_in to class) f.evidence
+  found_safe : (f : FoundEvidence) → IsIn f found → (class : Class) × IsClass to.classes f.class class × IsSafeEvidence u last class (duties_in to class) f.evidence
   found_safe f i =
-      let below = each_at (λ (g : Found). g.class < class_count to.classes) found f safe.within i in
+      let below = each_at (λ (g : FoundEvidence). g.class < class_count to.classes) found f safe.within i in
       let (class, is) = class_exists to.classes f.class below in
       elim (safe.each f.class class below is) [
-        | inl (kept, none) ↦ absurd (each_at (λ (g : Found). ¬ (g.class ≡ f.class)) found f none i refl)
+        | inl (kept, none) ↦ absurd (each_at (λ (g : FoundEvidence). ¬ (g.class ≡ f.class)) found f none i refl)
         | inr (fails, has) ↦
             let same : has.new ≡ f = found_once found safe.ascending has.new f has.stands i has.class_is in
-            (class, is, subst (λ (g : Found). IsSafeEvidence u last class (duties_in to class) g.evidence) same has.safe)
+            (class, is, subst (λ (g : FoundEvidence). IsSafeEvidence u last class (duties_in to class) g.evidence) same has.safe)
       ]
 
   -- a round is one of those before, or the last one
@@ -201,7 +201,7 @@ module _ (to : Target) (u : Rollout) (net : u.net ≡ to.net) (last : ℕ) (with
     λ has h. elim (pick_cases e (suc last) found more added has.pick has.stands) [
       | inl i ↦ (let le = old_round has.pick i in let round = has.round_is in absurd (omega arith))
       | inr (f, i, of) ↦ elim (safe.each n class (number_fits to.classes n class is) is) [
-        | inl (kept, none) ↦ absurd (each_at (λ (g : Found). ¬ (g.class ≡ n)) found f none i (sym of.class_is ∙ has.class_is))
+        | inl (kept, none) ↦ absurd (each_at (λ (g : FoundEvidence). ¬ (g.class ≡ n)) found f none i (sym of.class_is ∙ has.class_is))
         | inr (fails, new) ↦ fails (last_to n class.first class.entry (duties_in to class) h)
       ]
     ],
@@ -272,7 +272,7 @@ module _ (to : Target) (u : Rollout) (net : u.net ≡ to.net) (last : ℕ) (with
     | inl (kept, none) ↦ certificate_by u last e more n class.first class.entry (duties_in to class) (λ p i. old_pick e (suc last) found more added p i)
         (λ p i of_class le. elim (pick_cases e (suc last) found more added p i) [
           | inl j ↦ j
-          | inr (f, j, of) ↦ absurd (each_at (λ (g : Found). ¬ (g.class ≡ n)) found f none j (sym of.class_is ∙ of_class))
+          | inr (f, j, of) ↦ absurd (each_at (λ (g : FoundEvidence). ¬ (g.class ≡ n)) found f none j (sym of.class_is ∙ of_class))
         ]) meaning_there kept
     | inr (fails, has) ↦
         let (p, i, of) = pick_for e (suc last) found more added has.new has.stands in

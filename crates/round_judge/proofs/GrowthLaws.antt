@@ -9,7 +9,7 @@ use Rattle.certificates.specs.Ordered.{IsMeant}
 use Rattle.certificates.specs.declared.OrderedPick.{OrderedPick}
 use Rattle.certificates.specs.declared.OrderedEvidence.{OrderedEvidence}
 use Rattle.evidence_store.specs.Stored.{IsStored, IsWithPick}
-use Rattle.round_judge.specs.declared.judging.Found.{Found}
+use Rattle.round_judge.specs.declared.judging.FoundEvidence.{FoundEvidence}
 use Rattle.round_judge.specs.Judged.{AreWithPicks}
 
 -- ---- lists that begin with a list
@@ -84,12 +84,12 @@ meant_less e more grows stored p numbers sets i h =
 -- ---- the picks of a round
 
 -- a pick of the round for what was found
-pub record IsPickOf (e : OrderedEvidence) (round : ℕ) (f : Found) (p : OrderedPick) : Type 0 where
+pub record IsPickOf (e : OrderedEvidence) (round : ℕ) (f : FoundEvidence) (p : OrderedPick) : Type 0 where
   pub round_is : p.round ≡ round
   pub class_is : p.class ≡ f.class
   pub meant : IsMeant e p f.evidence.numbering f.evidence.befores
 
-pick_of_more : (e more : OrderedEvidence) → Grows e more → (round : ℕ) (f : Found) (p : OrderedPick) → IsPickOf e round f p → IsPickOf more round f p
+pick_of_more : (e more : OrderedEvidence) → Grows e more → (round : ℕ) (f : FoundEvidence) (p : OrderedPick) → IsPickOf e round f p → IsPickOf more round f p
 pick_of_more e more grows round f p h = record {
   round_is = h.round_is;
   class_is = h.class_is;
@@ -99,19 +99,19 @@ pick_of_more e more grows round f p h = record {
 one_grows : (old : OrderedEvidence) (round class : ℕ) (numbers : List ℕ) (sets : List (List ℕ)) (new : OrderedEvidence) → IsWithPick old round class numbers sets new → Grows old new
 one_grows old round class numbers sets new h = record { numberings = h.numberings; befores = h.befores; uses = h.uses }
 
-pub grown : (old : OrderedEvidence) (round : ℕ) (found : List Found) (new : OrderedEvidence) → AreWithPicks old round found new → Grows old new
+pub grown : (old : OrderedEvidence) (round : ℕ) (found : List FoundEvidence) (new : OrderedEvidence) → AreWithPicks old round found new → Grows old new
 grown old round [] new h = subst (Grows old) (sym h) (grows_refl old)
 grown old round (f ∷ found) new (mid, one, rest) =
     grows_through old mid new (one_grows old round f.class f.evidence.numbering f.evidence.befores mid one) (grown mid round found new rest)
 
-pub old_pick : (old : OrderedEvidence) (round : ℕ) (found : List Found) (new : OrderedEvidence) → AreWithPicks old round found new → (p : OrderedPick) → IsIn p old.picks → IsIn p new.picks
+pub old_pick : (old : OrderedEvidence) (round : ℕ) (found : List FoundEvidence) (new : OrderedEvidence) → AreWithPicks old round found new → (p : OrderedPick) → IsIn p old.picks → IsIn p new.picks
 old_pick old round [] new h p i = subst (λ (e : OrderedEvidence). IsIn p e.picks) (sym h) i
 old_pick old round (f ∷ found) new (mid, one, rest) p i =
     old_pick mid round found new rest p (subst (IsIn p) (sym one.picks) (in_append_left p old.picks (one.pick ∷ []) i))
 
 -- each pick was there, or is one of the round for something that was found
-pub pick_cases : (old : OrderedEvidence) (round : ℕ) (found : List Found) (new : OrderedEvidence) → AreWithPicks old round found new → (p : OrderedPick) → IsIn p new.picks
-    → IsIn p old.picks ⊎ ((f : Found) × IsIn f found × IsPickOf new round f p)
+pub pick_cases : (old : OrderedEvidence) (round : ℕ) (found : List FoundEvidence) (new : OrderedEvidence) → AreWithPicks old round found new → (p : OrderedPick) → IsIn p new.picks
+    → IsIn p old.picks ⊎ ((f : FoundEvidence) × IsIn f found × IsPickOf new round f p)
 pick_cases old round [] new h p i = inl (subst (λ (e : OrderedEvidence). IsIn p e.picks) h i)
 pick_cases old round (f ∷ found) new (mid, one, rest) p i =
     elim (pick_cases mid round found new rest p i) [
@@ -127,7 +127,7 @@ pick_cases old round (f ∷ found) new (mid, one, rest) p i =
         (subst (IsPickOf mid round f) (sym e) (record { round_is = one.round_is; class_is = one.class_is; meant = one.meant }))
 
 -- for each thing that was found there is a pick
-pub pick_for : (old : OrderedEvidence) (round : ℕ) (found : List Found) (new : OrderedEvidence) → AreWithPicks old round found new → (f : Found) → IsIn f found
+pub pick_for : (old : OrderedEvidence) (round : ℕ) (found : List FoundEvidence) (new : OrderedEvidence) → AreWithPicks old round found new → (f : FoundEvidence) → IsIn f found
     → (p : OrderedPick) × IsIn p new.picks × IsPickOf new round f p
 pick_for old round [] new h f i = absurd i
 pick_for old round (g ∷ found) new (mid, one, rest) f (inl e) =
@@ -135,13 +135,13 @@ pick_for old round (g ∷ found) new (mid, one, rest) f (inl e) =
     let is : IsPickOf mid round g one.pick = record { round_is = one.round_is; class_is = one.class_is; meant = one.meant } in (
       one.pick,
       old_pick mid round found new rest one.pick (subst (IsIn one.pick) (sym one.picks) (in_append_right one.pick old.picks (one.pick ∷ []) (inl refl))),
-      subst (λ (x : Found). IsPickOf new round x one.pick) (sym e) (pick_of_more mid new grows round g one.pick is),
+      subst (λ (x : FoundEvidence). IsPickOf new round x one.pick) (sym e) (pick_of_more mid new grows round g one.pick is),
     )
 pick_for old round (g ∷ found) new (mid, one, rest) f (inr i) = pick_for mid round found new rest f i
 
 -- each numbering was there, or was found
-pub numbering_cases : (old : OrderedEvidence) (round : ℕ) (found : List Found) (new : OrderedEvidence) → AreWithPicks old round found new → (n : List ℕ) → IsIn n new.numberings
-    → IsIn n old.numberings ⊎ ((f : Found) × IsIn f found × (n ≡ f.evidence.numbering))
+pub numbering_cases : (old : OrderedEvidence) (round : ℕ) (found : List FoundEvidence) (new : OrderedEvidence) → AreWithPicks old round found new → (n : List ℕ) → IsIn n new.numberings
+    → IsIn n old.numberings ⊎ ((f : FoundEvidence) × IsIn f found × (n ≡ f.evidence.numbering))
 numbering_cases old round [] new h n i = inl (subst (λ (e : OrderedEvidence). IsIn n e.numberings) h i)
 numbering_cases old round (f ∷ found) new (mid, one, rest) n i =
     elim (numbering_cases mid round found new rest n i) [
@@ -150,8 +150,8 @@ numbering_cases old round (f ∷ found) new (mid, one, rest) n i =
     ]
 
 -- each before set was there, or was found
-pub before_cases : (old : OrderedEvidence) (round : ℕ) (found : List Found) (new : OrderedEvidence) → AreWithPicks old round found new → (set : List ℕ) → IsIn set new.befores
-    → IsIn set old.befores ⊎ ((f : Found) × IsIn f found × IsIn set f.evidence.befores)
+pub before_cases : (old : OrderedEvidence) (round : ℕ) (found : List FoundEvidence) (new : OrderedEvidence) → AreWithPicks old round found new → (set : List ℕ) → IsIn set new.befores
+    → IsIn set old.befores ⊎ ((f : FoundEvidence) × IsIn f found × IsIn set f.evidence.befores)
 before_cases old round [] new h set i = inl (subst (λ (e : OrderedEvidence). IsIn set e.befores) h i)
 before_cases old round (f ∷ found) new (mid, one, rest) set i =
     elim (before_cases mid round found new rest set i) [

@@ -27,7 +27,7 @@ use Rattle.certificates.proofs.PickLaws.{one_in_force, one_meaning, at_place}
 use Rattle.dest_classes.specs.Numbered.{IsNumbered}
 use Rattle.dest_classes.specs.declared.NumberedClass.{NumberedClass}
 use Rattle.config_check.proofs.JudgeLaws.{class_within}
-use Rattle.round_judge.specs.declared.judging.Found.{Found}
+use Rattle.round_judge.specs.declared.judging.FoundEvidence.{FoundEvidence}
 use Rattle.round_judge.specs.declared.judging.ClassVerdict.{ClassVerdict}
 use Rattle.round_judge.specs.declared.judging.ClassVerdict.TheVariants.{Kept, New, Unsafe}
 use Rattle.table_difference.specs.Targets.{Target}
@@ -151,14 +151,14 @@ module _ (to : Target) (u : Rollout) (e : OrderedEvidence) (k : ℕ) where
   pub safe_none : AreSafeBelow to u e k 0 []
   safe_none = record { each = λ n class less is. absurd (omega arith); within = tt; ascending = tt }
 
-  within_more : (m : ℕ) (found : List Found) → AllByRecursion (λ (f : Found). f.class < m) found → AllByRecursion (λ (f : Found). f.class < m + 1) found
-  within_more m found h = each_weaker (λ (f : Found). f.class < m) (λ (f : Found). f.class < m + 1) (λ f less. omega arith) found h
+  within_more : (m : ℕ) (found : List FoundEvidence) → AllByRecursion (λ (f : FoundEvidence). f.class < m) found → AllByRecursion (λ (f : FoundEvidence). f.class < m + 1) found
+  within_more m found h = each_weaker (λ (f : FoundEvidence). f.class < m) (λ (f : FoundEvidence). f.class < m + 1) (λ f less. omega arith) found h
 
-  not_found_above : (m : ℕ) (found : List Found) → AllByRecursion (λ (f : Found). f.class < m) found → HasNotFound m found
-  not_found_above m found h = each_weaker (λ (f : Found). f.class < m) (λ (f : Found). ¬ (f.class ≡ m)) (λ f less same. absurd (omega arith)) found h
+  not_found_above : (m : ℕ) (found : List FoundEvidence) → AllByRecursion (λ (f : FoundEvidence). f.class < m) found → HasNotFound m found
+  not_found_above m found h = each_weaker (λ (f : FoundEvidence). f.class < m) (λ (f : FoundEvidence). ¬ (f.class ≡ m)) (λ f less same. absurd (omega arith)) found h
 
   -- the pick in force keeps the next class safe
-  pub safe_kept : (m : ℕ) (found : List Found) → AreSafeBelow to u e k m found → ((class : Class) → IsClass to.classes m class → IsCertifiedClass to u e k m class) → AreSafeBelow to u e k (m + 1) found
+  pub safe_kept : (m : ℕ) (found : List FoundEvidence) → AreSafeBelow to u e k m found → ((class : Class) → IsClass to.classes m class → IsCertifiedClass to u e k m class) → AreSafeBelow to u e k (m + 1) found
   safe_kept m found h kept = record { each = each; within = within_more m found h.within; ascending = h.ascending }
     where
       each : (n : ℕ) (class : Class) → n < m + 1 → IsClass to.classes n class
@@ -173,14 +173,14 @@ module _ (to : Target) (u : Rollout) (e : OrderedEvidence) (k : ℕ) where
       ]
 
   -- new evidence keeps the next class safe, for which the pick in force fails
-  pub safe_new : (m : ℕ) (found : List Found) (new : Found) → new.class ≡ m → AreSafeBelow to u e k m found
+  pub safe_new : (m : ℕ) (found : List FoundEvidence) (new : FoundEvidence) → new.class ≡ m → AreSafeBelow to u e k m found
       → ((class : Class) → IsClass to.classes m class → (¬ IsCertifiedClass to u e k m class) × IsSafeEvidence u k class (duties_in to class) new.evidence)
       → AreSafeBelow to u e k (m + 1) (found ++ new ∷ [])
   safe_new m found new number h judged = record {
     each = each;
-    within = each_append (λ (f : Found). f.class < m + 1) found (new ∷ []) (within_more m found h.within) (omega arith, tt);
-    ascending = chain_push (λ (f g : Found). f.class < g.class) found new h.ascending
-        (each_weaker (λ (f : Found). f.class < m) (λ (f : Found). f.class < new.class) (λ f less. omega arith) found h.within);
+    within = each_append (λ (f : FoundEvidence). f.class < m + 1) found (new ∷ []) (within_more m found h.within) (omega arith, tt);
+    ascending = chain_push (λ (f g : FoundEvidence). f.class < g.class) found new h.ascending
+        (each_weaker (λ (f : FoundEvidence). f.class < m) (λ (f : FoundEvidence). f.class < new.class) (λ f less. omega arith) found h.within);
   }
     where
       each : (n : ℕ) (class : Class) → n < m + 1 → IsClass to.classes n class
@@ -188,7 +188,7 @@ module _ (to : Target) (u : Rollout) (e : OrderedEvidence) (k : ℕ) where
       each n class less is = elim (below_or_last n m less) [
         | inl below ↦
             elim (h.each n class below is) [
-              | inl kept ↦ inl (kept.0, each_append (λ (f : Found). ¬ (f.class ≡ n)) found (new ∷ []) kept.1 (λ same. absurd (omega arith), tt))
+              | inl kept ↦ inl (kept.0, each_append (λ (f : FoundEvidence). ¬ (f.class ≡ n)) found (new ∷ []) kept.1 (λ same. absurd (omega arith), tt))
               | inr fails ↦
                   inr (
                     fails.0,
@@ -204,7 +204,7 @@ module _ (to : Target) (u : Rollout) (e : OrderedEvidence) (k : ℕ) where
       ]
 
   -- where a class is new, there is its evidence
-  pub new_there : (m : ℕ) → m < class_count to.classes → (new : Found) → new.class ≡ m
+  pub new_there : (m : ℕ) → m < class_count to.classes → (new : FoundEvidence) → new.class ≡ m
       → ((class : Class) → IsClass to.classes m class → (¬ IsCertifiedClass to u e k m class) × IsSafeEvidence u k class (duties_in to class) new.evidence) → IsNewlySafe to u e k new
   new_there m less new number judged =
       let (class, is) = class_exists to.classes m less in
@@ -216,7 +216,7 @@ module _ (to : Target) (u : Rollout) (e : OrderedEvidence) (k : ℕ) where
       }
 
   -- and it is that of each class with the number
-  pub new_here : (n : ℕ) (found : Found) → found.class ≡ n → IsNewlySafe to u e k found → (class : Class) → IsClass to.classes n class
+  pub new_here : (n : ℕ) (found : FoundEvidence) → found.class ≡ n → IsNewlySafe to u e k found → (class : Class) → IsClass to.classes n class
       → (¬ IsCertifiedClass to u e k n class) × IsSafeEvidence u k class (duties_in to class) found.evidence
   new_here n found number new class is =
       let there = subst (λ (i : ℕ). IsClass to.classes i new.class) number new.is_class in
@@ -228,16 +228,16 @@ module _ (to : Target) (u : Rollout) (e : OrderedEvidence) (k : ℕ) where
   -- ---- the classes that the round meets
 
   -- what is found for those below a number: all that is new, and all there is if there is a round before
-  abbrev pub AreMetBelow : ℕ → List Found → Type 0
+  abbrev pub AreMetBelow : ℕ → List FoundEvidence → Type 0
   AreMetBelow below found = (0 < k → AreSafeBelow to u e k below found) × AllByRecursion (IsNewlySafe to u e k) found
 
   pub met_none : AreMetBelow 0 []
   met_none = (λ later. safe_none, tt)
 
-  pub met_kept : (m : ℕ) (found : List Found) → AreMetBelow m found → ((class : Class) → IsClass to.classes m class → 0 < k → IsCertifiedClass to u e k m class) → AreMetBelow (m + 1) found
+  pub met_kept : (m : ℕ) (found : List FoundEvidence) → AreMetBelow m found → ((class : Class) → IsClass to.classes m class → 0 < k → IsCertifiedClass to u e k m class) → AreMetBelow (m + 1) found
   met_kept m found h kept = (λ later. safe_kept m found (h.0 later) (λ class is. kept class is later), h.1)
 
-  pub met_new : (m : ℕ) → m < class_count to.classes → (found : List Found) (new : Found) → new.class ≡ m → AreMetBelow m found
+  pub met_new : (m : ℕ) → m < class_count to.classes → (found : List FoundEvidence) (new : FoundEvidence) → new.class ≡ m → AreMetBelow m found
       → ((class : Class) → IsClass to.classes m class → (¬ IsCertifiedClass to u e k m class) × IsSafeEvidence u k class (duties_in to class) new.evidence)
       → AreMetBelow (m + 1) (found ++ new ∷ [])
   met_new m less found new number h judged = (
@@ -256,14 +256,14 @@ module _ (to : Target) (u : Rollout) (e : OrderedEvidence) (k : ℕ) where
   -- ---- what is noted of the class with a number
 
   -- what holds of all that is found holds with what is noted, where the class is safe
-  pub safe_noted : (m : ℕ) (found new : List Found) (judged : ClassVerdict) (failing : Option UnsafeClass) → IsNoted m judged found new failing → failing ≡ None → AreSafeBelow to u e k m found
+  pub safe_noted : (m : ℕ) (found new : List FoundEvidence) (judged : ClassVerdict) (failing : Option UnsafeClass) → IsNoted m judged found new failing → failing ≡ None → AreSafeBelow to u e k m found
       → ((class : Class) → IsClass to.classes m class → IsJudged to u e k m class judged) → AreSafeBelow to u e k (m + 1) new
   safe_noted m found new Kept failing noted none h judged = subst (AreSafeBelow to u e k (m + 1)) (sym noted.0) (safe_kept m found h judged)
   safe_noted m found new (New evidence) failing noted none h judged =
       subst (AreSafeBelow to u e k (m + 1)) (sym noted.0) (safe_new m found (record { class = m; evidence = evidence }) refl h judged)
   safe_noted m found new (Unsafe f) failing noted none h judged = absurd (none_some f (sym none ∙ noted))
 
-  pub met_noted : (m : ℕ) → m < class_count to.classes → (found new : List Found) (judged : ClassVerdict) (failing : Option UnsafeClass) → IsNoted m judged found new failing → failing ≡ None
+  pub met_noted : (m : ℕ) → m < class_count to.classes → (found new : List FoundEvidence) (judged : ClassVerdict) (failing : Option UnsafeClass) → IsNoted m judged found new failing → failing ≡ None
       → AreMetBelow m found → ((class : Class) → IsClass to.classes m class → IsJudgedIfMet to u e k m class judged) → AreMetBelow (m + 1) new
   met_noted m less found new Kept failing noted none h judged = subst (AreMetBelow (m + 1)) (sym noted.0) (met_kept m found h judged)
   met_noted m less found new (New evidence) failing noted none h judged =
@@ -271,7 +271,7 @@ module _ (to : Target) (u : Rollout) (e : OrderedEvidence) (k : ℕ) where
   met_noted m less found new (Unsafe f) failing noted none h judged = absurd (none_some f (sym none ∙ noted))
 
   -- the class that is noted as failing is not safe by any evidence
-  pub failed_noted : (m : ℕ) → m < class_count to.classes → (found new : List Found) (judged : ClassVerdict) (failing : Option UnsafeClass) (f : UnsafeClass) → IsNoted m judged found new failing
+  pub failed_noted : (m : ℕ) → m < class_count to.classes → (found new : List FoundEvidence) (judged : ClassVerdict) (failing : Option UnsafeClass) (f : UnsafeClass) → IsNoted m judged found new failing
       → failing ≡ Some f → ((class : Class) → IsClass to.classes m class → IsJudgedIfMet to u e k m class judged) → HasUnsafe to u k f
   failed_noted m less found new Kept failing f noted some judged = absurd (none_some f (sym noted.1 ∙ some))
   failed_noted m less found new (New evidence) failing f noted some judged = absurd (none_some f (sym noted.1 ∙ some))
@@ -280,7 +280,7 @@ module _ (to : Target) (u : Rollout) (e : OrderedEvidence) (k : ℕ) where
 
 module _ (to : Target) (u : Rollout) (e : OrderedEvidence) (k : ℕ) where
   -- what was found, and the picks in force, keep the classes below a number safe
-  pub safe_below : (m : ℕ) (found : List Found) → AreSafeBelow to u e k m found → CanBeSafeBelow to u k m
+  pub safe_below : (m : ℕ) (found : List FoundEvidence) → AreSafeBelow to u e k m found → CanBeSafeBelow to u k m
   safe_below m found h n class less is =
       elim (h.each n class less is) [
         | inl (kept, none) ↦ (kept.numbers, kept.sets, kept.safe)
@@ -288,7 +288,7 @@ module _ (to : Target) (u : Rollout) (e : OrderedEvidence) (k : ℕ) where
       ]
 
   -- the class that is noted as failing has the number
-  pub failed_number : (m : ℕ) → m < class_count to.classes → (found new : List Found) (judged : ClassVerdict) (failing : Option UnsafeClass) (f : UnsafeClass) → IsNoted m judged found new failing
+  pub failed_number : (m : ℕ) → m < class_count to.classes → (found new : List FoundEvidence) (judged : ClassVerdict) (failing : Option UnsafeClass) (f : UnsafeClass) → IsNoted m judged found new failing
       → failing ≡ Some f → ((class : Class) → IsClass to.classes m class → IsJudgedIfMet to u e k m class judged) → f.number ≡ m
   failed_number m less found new Kept failing f noted some judged = absurd (none_some f (sym noted.1 ∙ some))
   failed_number m less found new (New evidence) failing f noted some judged = absurd (none_some f (sym noted.1 ∙ some))
@@ -297,7 +297,7 @@ module _ (to : Target) (u : Rollout) (e : OrderedEvidence) (k : ℕ) where
       ap (λ (x : UnsafeClass). x.number) (sym (same_Some g f (sym noted ∙ some))) ∙ (judged class is).0
 
   -- so where those below it are safe, those below its own number are
-  pub failed_below : (m : ℕ) → m < class_count to.classes → (found new : List Found) (judged : ClassVerdict) (failing : Option UnsafeClass) (f : UnsafeClass) → IsNoted m judged found new failing
+  pub failed_below : (m : ℕ) → m < class_count to.classes → (found new : List FoundEvidence) (judged : ClassVerdict) (failing : Option UnsafeClass) (f : UnsafeClass) → IsNoted m judged found new failing
       → failing ≡ Some f → ((class : Class) → IsClass to.classes m class → IsJudgedIfMet to u e k m class judged) → AreSafeBelow to u e k m found → CanBeSafeBelow to u k f.number
   failed_below m less found new judged failing f noted some all safe =
       subst (CanBeSafeBelow to u k) (sym (failed_number m less found new judged failing f noted some all)) (safe_below m found safe)
@@ -334,7 +334,7 @@ module _ (to : Target) (u : Rollout) (e : OrderedEvidence) (k : ℕ) where
   judged_met n class (Unsafe f) h = h
 
 -- what holds of the verdict by what is found holds of the one that is given
-pub verdict_there : {E : Type 0} (P : RoundVerdict → Type 0) (found : Vec Found Global) (failing : Result (Option UnsafeClass) E) (result : Result RoundVerdict E)
+pub verdict_there : {E : Type 0} (P : RoundVerdict → Type 0) (found : Vec FoundEvidence Global) (failing : Result (Option UnsafeClass) E) (result : Result RoundVerdict E)
     → IfOk result (λ v. IsOkAnd failing (λ f. v ≡ verdict_of found f)) → IfOk failing (λ f. P (verdict_of found f)) → IfOk result P
 verdict_there P found failing (Err e) is held = tt
 verdict_there P found (Ok f) (Ok v) is held = subst P (sym is) held

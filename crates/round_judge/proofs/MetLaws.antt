@@ -11,7 +11,7 @@ use Rattle.check_reasons.specs.Touched.{touches}
 use Rattle.mixed_walks.specs.Walks.{TablesKeepVlans, KeepVlansUpTo}
 use Rattle.class_watch.specs.Walks.{meets_any}
 use Rattle.class_watch.proofs.StandLaws.{untouched_walk}
-use Rattle.round_judge.specs.declared.judging.Found.{Found}
+use Rattle.round_judge.specs.declared.judging.FoundEvidence.{FoundEvidence}
 use Rattle.table_difference.specs.Targets.{Target}
 use Rattle.round_judge.specs.Goals.{HasAtoms}
 use Rattle.round_judge.specs.Judged.{IsNextRound}
@@ -30,7 +30,7 @@ passed_over to changes looked atoms touched n off class is =
     sym (touched n class is) ∙ subst (λ (m : ℕ). get_or looked (n % m) false ≡ false) (atoms (omega arith)) off
 
 module _ (to : Target) (u : Rollout) (e : OrderedEvidence) (k : ℕ) (changes : List Change) (next : IsNextRound to u e k changes) (rules : TablesKeepVlans u.old) (keeps : KeepVlansUpTo u k)
-    (found : List Found) (came : List ℕ) where
+    (found : List FoundEvidence) (came : List ℕ) where
   -- what is found for the classes below a number, and what is marked
   abbrev pub AreMetUpTo : ℕ → Type 0
   AreMetUpTo m = AreMetBelow to u e k m found × AreHeldBelow to u k m came

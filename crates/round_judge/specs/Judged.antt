@@ -20,7 +20,7 @@ use Rattle.evidence_store.specs.Found.{IsSafeEvidence}
 use Rattle.evidence_store.specs.State.{StoreState}
 use Rattle.evidence_store.specs.Stored.{IsWithPick}
 use Rattle.class_watch.specs.Walks.{HoldsWalks}
-use Rattle.round_judge.specs.declared.judging.Found.{Found}
+use Rattle.round_judge.specs.declared.judging.FoundEvidence.{FoundEvidence}
 use Rattle.round_judge.specs.declared.judging.ClassVerdict.{ClassVerdict}
 use Rattle.round_judge.specs.declared.judging.ClassVerdict.TheVariants.{Kept, New, Unsafe}
 use Rattle.round_judge.specs.declared.judging.RoundVerdict.{RoundVerdict}
@@ -65,29 +65,29 @@ IsJudgedIfMet to u e k n class (New evidence) = IsJudged to u e k n class (New e
 IsJudgedIfMet to u e k n class (Unsafe f) = IsJudged to u e k n class (Unsafe f)
 
 -- what is noted for class n behind what was found: its new evidence, if there is some, or that it is not safe by any evidence
-abbrev pub IsNoted : ℕ → ClassVerdict → List Found → List Found → Option UnsafeClass → Type 0
+abbrev pub IsNoted : ℕ → ClassVerdict → List FoundEvidence → List FoundEvidence → Option UnsafeClass → Type 0
 IsNoted n Kept old new failing = (new ≡ old) × (failing ≡ None)
 IsNoted n (New evidence) old new failing = (new ≡ old ++ record { class = n; evidence = evidence } ∷ []) × (failing ≡ None)
 IsNoted n (Unsafe f) old new failing = failing ≡ Some f
 
 -- new evidence was found for class n
-pub record HasFound (to : Target) (u : Rollout) (k n : ℕ) (class : Class) (found : List Found) : Type 0 where
-  pub new : Found
+pub record HasFound (to : Target) (u : Rollout) (k n : ℕ) (class : Class) (found : List FoundEvidence) : Type 0 where
+  pub new : FoundEvidence
   pub stands : IsIn new found
   pub class_is : new.class ≡ n
   pub safe : IsSafeEvidence u k class (duties_in to class) new.evidence
 
 -- no evidence was found for class n
-abbrev pub HasNotFound : ℕ → List Found → Type 0
-HasNotFound n found = AllByRecursion (λ (f : Found). ¬ (f.class ≡ n)) found
+abbrev pub HasNotFound : ℕ → List FoundEvidence → Type 0
+HasNotFound n found = AllByRecursion (λ (f : FoundEvidence). ¬ (f.class ≡ n)) found
 
 -- each class below a number is safe in round k: the pick in force keeps it safe and nothing new was found for it,
 -- or it fails and new evidence was found; what was found is of these classes, ascending
-pub record AreSafeBelow (to : Target) (u : Rollout) (e : OrderedEvidence) (k below : ℕ) (found : List Found) : Type 0 where
+pub record AreSafeBelow (to : Target) (u : Rollout) (e : OrderedEvidence) (k below : ℕ) (found : List FoundEvidence) : Type 0 where
   pub each : (n : ℕ) (class : Class) → n < below → IsClass to.classes n class
       → (IsCertifiedClass to u e k n class × HasNotFound n found) ⊎ ((¬ IsCertifiedClass to u e k n class) × HasFound to u k n class found)
-  pub within : AllByRecursion (λ (f : Found). f.class < below) found
-  pub ascending : IsChain (λ (f g : Found). f.class < g.class) found
+  pub within : AllByRecursion (λ (f : FoundEvidence). f.class < below) found
+  pub ascending : IsChain (λ (f g : FoundEvidence). f.class < g.class) found
 
 -- one of the classes is not safe by any evidence
 pub record HasUnsafe (to : Target) (u : Rollout) (k : ℕ) (f : UnsafeClass) : Type 0 where
@@ -115,12 +115,12 @@ AreFirstJudged to u e k (verdict.Safe found) = AreSafeBelow to u e k (class_coun
 AreFirstJudged to u e k (verdict.Unsafe f) = IsFirstUnsafe to u k f
 
 -- the verdict by what is found, and by the class that is not safe by any evidence, if there is one
-abbrev pub verdict_of : Vec Found Global → Option UnsafeClass → RoundVerdict
+abbrev pub verdict_of : Vec FoundEvidence Global → Option UnsafeClass → RoundVerdict
 verdict_of found None = verdict.Safe found
 verdict_of found (Some f) = verdict.Unsafe f
 
 -- the pick in force fails to keep a class safe in round k, and new evidence does
-pub record IsNewlySafe (to : Target) (u : Rollout) (e : OrderedEvidence) (k : ℕ) (f : Found) : Type 0 where
+pub record IsNewlySafe (to : Target) (u : Rollout) (e : OrderedEvidence) (k : ℕ) (f : FoundEvidence) : Type 0 where
   pub class : Class
   pub is_class : IsClass to.classes f.class class
   pub fails : ¬ IsCertifiedClass to u e k f.class class
@@ -128,7 +128,7 @@ pub record IsNewlySafe (to : Target) (u : Rollout) (e : OrderedEvidence) (k : �
 
 -- each class that round k meets is safe in it, and so is each other one if there is a round before;
 -- and each switch that the mixed walks of each class come to is known
-pub record AreMetSafe (to : Target) (u : Rollout) (e : OrderedEvidence) (k : ℕ) (found : List Found) (came : List ℕ) : Type 0 where
+pub record AreMetSafe (to : Target) (u : Rollout) (e : OrderedEvidence) (k : ℕ) (found : List FoundEvidence) (came : List ℕ) : Type 0 where
   pub later : 0 < k → AreSafeBelow to u e k (class_count to.classes) found
   pub new : AllByRecursion (IsNewlySafe to u e k) found
   pub known : HoldRound to u k came
@@ -139,7 +139,7 @@ AreMetJudged to u e k (verdict.Safe found) came = AreMetSafe to u e k found.item
 AreMetJudged to u e k (verdict.Unsafe f) came = HasUnsafe to u k f × (0 < k → CanBeSafeBelow to u k f.number) × HoldTables to (tables_before u k) came
 
 -- the evidence with a pick more for each class for which new evidence was found
-abbrev pub AreWithPicks : OrderedEvidence → ℕ → List Found → OrderedEvidence → Type 0
+abbrev pub AreWithPicks : OrderedEvidence → ℕ → List FoundEvidence → OrderedEvidence → Type 0
 AreWithPicks old round [] new = new ≡ old
 AreWithPicks old round (f ∷ found) new =
     (mid : OrderedEvidence) × IsWithPick old round f.class f.evidence.numbering f.evidence.befores mid × AreWithPicks mid round found new

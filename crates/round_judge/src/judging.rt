@@ -11,7 +11,7 @@ ghost use Rattle.certificates.specs.declared.OrderedPick.{OrderedPick};
 ghost use Rattle.dest_classes.specs.Numbered.{IsNumbered};
 ghost use Rattle.mixed_walks.specs.Walks.{IsRoundOf, IsWalked};
 ghost use Rattle.round_judge.specs.Goals.{HasAtoms, HoldsLastOf, duties_in};
-ghost use Rattle.round_judge.specs.declared.judging.Found.{Found as FoundOf};
+ghost use Rattle.round_judge.specs.declared.judging.FoundEvidence.{FoundEvidence as FoundOf};
 ghost use Rattle.check_reasons.specs.AtomMarks.{AreTouched};
 ghost use Rattle.class_watch.specs.Walks.{HoldsWalks, HoldsTables};
 ghost use Rattle.round_judge.specs.Evidence.{IsCertifiedClass};
@@ -43,7 +43,7 @@ pub(crate) enum ClassVerdict {
 /// numbers, or a class that is not safe by any evidence.
 #[derive(Drop)]
 pub enum RoundVerdict {
-    Safe(Vec<Found>),
+    Safe(Vec<FoundEvidence>),
     Unsafe(UnsafeClass),
 }
 
@@ -57,7 +57,7 @@ pub struct TriedRound<'a> {
 
 /// New evidence for a class, by its number.
 #[derive(Drop)]
-pub struct Found {
+pub struct FoundEvidence {
     pub class: u32,
     pub evidence: ClassEvidence,
 }
@@ -221,14 +221,14 @@ fn judge_if_met(
 fn note(
     class: u32,
     judged: ClassVerdict,
-    found: &mut Vec<Found>,
+    found: &mut Vec<FoundEvidence>,
 ) -> Result<Option<UnsafeClass>, Memory>
     ensures { IfOk result (IsNoted class judged found.old.items found.new.items) }
 {
     match judged {
         ClassVerdict::Kept => Ok(None),
         ClassVerdict::New(evidence) => {
-            found.push(Found { class, evidence })?;
+            found.push(FoundEvidence { class, evidence })?;
             Ok(None)
         }
         ClassVerdict::Unsafe(failing) => Ok(Some(failing)),
@@ -237,7 +237,7 @@ fn note(
 
 /// The verdict on all classes by what is found for them, and by the first that is not safe by any evidence, if there is one.
 fn verdict_of(
-    found: Vec<Found>,
+    found: Vec<FoundEvidence>,
     failing: Result<Option<UnsafeClass>, Memory>,
 ) -> Result<RoundVerdict, Memory>
     ensures { IfOk result (λ verdict. IsOkAnd failing (λ f. verdict ≡ verdict_of found f)) }
@@ -263,7 +263,7 @@ fn judge_touched(
     tried: &TriedRound,
     looked: &LookedAtoms,
     last: &mut LastSets,
-    found: &mut Vec<Found>,
+    found: &mut Vec<FoundEvidence>,
 ) -> Result<Option<UnsafeClass>, Memory>
     requires ready { IsReadyToJudge goal.now tried.now.mixes.now tried.now.store.now }
     requires came { length watch.old.came.items ≡ class_count goal.now.classes }
@@ -320,7 +320,7 @@ fn judge_met(
 }
 
 /// Takes out the last of what was found, if that is for the class of a number.
-fn take_last(found: &mut Vec<Found>, number: u32) -> Option<ClassEvidence>
+fn take_last(found: &mut Vec<FoundEvidence>, number: u32) -> Option<ClassEvidence>
     ensures some { IfSome result (λ evidence. IsIn (record { class = number; evidence = evidence })
         found.old.items) }
     ensures rest { (f : FoundOf) → IsIn f found.new.items → IsIn f found.old.items }
@@ -338,7 +338,7 @@ fn judge_next(
     watch: &mut ClassWatch,
     tried: &TriedRound,
     last: &mut LastSets,
-    before: &mut Vec<Found>,
+    before: &mut Vec<FoundEvidence>,
     number: u32,
 ) -> Result<ClassVerdict, Memory>
     requires number { number < class_count goal.now.classes }
@@ -374,8 +374,8 @@ fn judge_each(
     watch: &mut ClassWatch,
     tried: &TriedRound,
     last: &mut LastSets,
-    before: &mut Vec<Found>,
-    found: &mut Vec<Found>,
+    before: &mut Vec<FoundEvidence>,
+    found: &mut Vec<FoundEvidence>,
 ) -> Result<Option<UnsafeClass>, Memory>
     requires ready { IsReadyToJudge goal.now tried.now.mixes.now tried.now.store.now }
     requires came { length watch.old.came.items ≡ class_count goal.now.classes }
@@ -405,7 +405,7 @@ fn judge_rest(
     goal: &Goal,
     watch: &mut ClassWatch,
     tried: &TriedRound,
-    met: Vec<Found>,
+    met: Vec<FoundEvidence>,
 ) -> Result<RoundVerdict, Memory>
     requires ready { IsReadyToJudge goal.now tried.now.mixes.now tried.now.store.now }
     requires came { length watch.old.came.items ≡ class_count goal.now.classes }
@@ -473,7 +473,7 @@ fn judge_every(
     watch: &mut ClassWatch,
     tried: &TriedRound,
     last: &mut LastSets,
-    found: &mut Vec<Found>,
+    found: &mut Vec<FoundEvidence>,
 ) -> Result<Option<UnsafeClass>, Memory>
     requires ready { IsReadyToJudge goal.now tried.now.mixes.now tried.now.store.now }
     requires came { length watch.old.came.items ≡ class_count goal.now.classes }

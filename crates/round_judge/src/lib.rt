@@ -9,7 +9,7 @@ mod rooms;
 mod unsafe_class;
 
 pub use goal::Goal;
-pub use judging::{Found, RoundVerdict, TriedRound, judge_all, judge_in_order};
+pub use judging::{FoundEvidence, RoundVerdict, TriedRound, judge_all, judge_in_order};
 pub use picking::put_picks;
 pub use rooms::watch_rooms;
 pub use unsafe_class::UnsafeClass;

@@ -3,17 +3,21 @@ ghost use Rattle.std.specs.Prelude.{◌≡◌, ◌<◌, ◌≤◌, IfOk, OnOk};
 ghost use Rattle.std.specs.List.{AllByRecursion};
 ghost use Rattle.certificates.specs.Valid.{IsChain};
 ghost use Rattle.evidence_store.specs.Stored.{IsStored};
-ghost use Rattle.round_judge.specs.declared.judging.Found.{Found as FoundView};
+ghost use Rattle.round_judge.specs.declared.judging.FoundEvidence.{FoundEvidence as FoundView};
 ghost use Rattle.round_judge.specs.Judged.{AreWithPicks};
 
-use crate::judging::Found;
+use crate::judging::FoundEvidence;
 use evidence_store::{ClassEvidence, EvidenceStore};
 use net_base::Memory;
 use std::alloc::Global;
 use std::mem::replace;
 
 /// The store with a pick more of the round for each class for which new evidence was found.
-fn add_picks(store: EvidenceStore, round: u32, found: Vec<Found>) -> Result<EvidenceStore, Memory>
+fn add_picks(
+    store: EvidenceStore,
+    round: u32,
+    found: Vec<FoundEvidence>,
+) -> Result<EvidenceStore, Memory>
     requires few_rounds { round ≤ 4200 }
     requires behind { AllByRecursion (λ p. p.round < round) store.evidence.picks }
     requires classes { AllByRecursion (λ (f : FoundView). f.class < store.classes) found.items }
@@ -53,7 +57,7 @@ pub fn put_picks(
     alloc: Global,
     store: &mut EvidenceStore,
     round: u32,
-    found: Vec<Found>,
+    found: Vec<FoundEvidence>,
 ) -> Result<(), Memory>
     requires few_rounds { round ≤ 4200 }
     requires behind { AllByRecursion (λ p. p.round < round) store.old.evidence.picks }

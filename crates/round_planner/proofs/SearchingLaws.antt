@@ -28,7 +28,7 @@ use Rattle.evidence_store.specs.State.{StoreState}
 use Rattle.evidence_store.specs.Stored.{IsStored, no_evidence}
 use Rattle.round_tables.specs.PreparedTables.{PreparedState}
 use Rattle.round_tables.specs.Trials.{single, HasRoomAlone, IsBetweenTrials, IsTrying}
-use Rattle.round_judge.specs.declared.judging.Found.{Found}
+use Rattle.round_judge.specs.declared.judging.FoundEvidence.{FoundEvidence}
 use Rattle.table_difference.specs.Targets.{Target}
 use Rattle.round_judge.specs.Goals.{duties_in}
 use Rattle.round_planner.specs.Search.{update_by, single_rounds, CanBeSafe, Qualifies, IsFirstQualifying}
@@ -88,7 +88,7 @@ module _ (to : Target) (old : List (List Rule)) (old_user : IsUserConfig to.net 
   same = same_alone to old changes c []
 
   -- all classes are safe: the change qualifies
-  pub qualifies : HasRoomAlone to.net (tables_after changes old) c → (found : List Found) → AreSafeBelow to next e (length changes) (class_count to.classes) found → Qualifies to (tables_after changes old) c
+  pub qualifies : HasRoomAlone to.net (tables_after changes old) c → (found : List FoundEvidence) → AreSafeBelow to next e (length changes) (class_count to.classes) found → Qualifies to (tables_after changes old) c
   qualifies room found safe = record {
     stands = room;
     safe = λ n class is. elim (safe.each n class (number_fits to.classes n class is) is) [
@@ -161,7 +161,7 @@ module _ (to : Target) (old : List (List Rule)) (old_user : IsUserConfig to.net 
       ]
 
   -- where a search goes on with it
-  pub taken : (more : OrderedEvidence) (found : List Found) → IsStored e → AreSafeBelow to next e (length changes) (class_count to.classes) found
+  pub taken : (more : OrderedEvidence) (found : List FoundEvidence) → IsStored e → AreSafeBelow to next e (length changes) (class_count to.classes) found
       → AreWithPicks e (suc (length changes)) found more → IsStored more → IsFirstQualifying to (tables_after changes old) (remaining_changes (tables_after changes old) to.new) c → Stands to old (changes ++ c ∷ []) more
   taken more found stored_old safe added stored first = stands_more to old changes c e more found stands first stored_old safe added stored
 
@@ -207,7 +207,7 @@ made_few to old old_user new_user changes e stands =
     omega arith
 
 -- the search has made the change that was tried
-pub made_at : (to : Target) (old : List (List Rule)) → IsUserConfig to.net old → IsUserConfig to.net to.new → (changes : List Change) (c : Change) (s new : SearchState) (found : List Found) (round : ℕ) (between : List (List Change))
+pub made_at : (to : Target) (old : List (List Rule)) → IsUserConfig to.net old → IsUserConfig to.net to.new → (changes : List Change) (c : Change) (s new : SearchState) (found : List FoundEvidence) (round : ℕ) (between : List (List Change))
     → IsTryingAt to old changes c s → AreSafeBelow to (update_by to old (changes ++ c ∷ [])) s.store.evidence (length changes) (class_count to.classes) found
     → IsFirstQualifying to (tables_after changes old) (remaining_changes (tables_after changes old) to.new) c
     → between ≡ s.rounds ++ [] ∷ [] → new.rounds ≡ with_change c between → round ≡ length new.rounds
@@ -271,7 +271,7 @@ module _ (to : Target) (old : List (List Rule)) (old_user : IsUserConfig to.net 
   pub tried_next : IsNetwork to.net → IsNextRound to (update_by to old (changes ++ c ∷ [])) s.store.evidence (length changes) (c ∷ [])
   tried_next net = next_round to old old_user new_user changes c s.store.evidence at.stands remains net room_alone
 
-  pub tried_qualifies : (found : List Found) → AreSafeBelow to (update_by to old (changes ++ c ∷ [])) s.store.evidence (length changes) (class_count to.classes) found → Qualifies to (tables_after changes old) c
+  pub tried_qualifies : (found : List FoundEvidence) → AreSafeBelow to (update_by to old (changes ++ c ∷ [])) s.store.evidence (length changes) (class_count to.classes) found → Qualifies to (tables_after changes old) c
   tried_qualifies found safe = qualifies to old old_user new_user changes c s.store.evidence at.stands remains room_alone found safe
 
   pub tried_fails : (f : UnsafeClass) → HasUnsafe to (update_by to old (changes ++ c ∷ [])) (length changes) f → IsUnsafeClass to (tables_after changes old) c f

@@ -14,7 +14,7 @@ use Rattle.certificates.specs.Ordered.{OrderedCertificate}
 use Rattle.certificates.specs.declared.OrderedPick.{OrderedPick}
 use Rattle.certificates.specs.declared.OrderedEvidence.{OrderedEvidence}
 use Rattle.evidence_store.specs.Stored.{IsStored, no_evidence}
-use Rattle.round_judge.specs.declared.judging.Found.{Found}
+use Rattle.round_judge.specs.declared.judging.FoundEvidence.{FoundEvidence}
 use Rattle.table_difference.specs.Targets.{Target}
 use Rattle.round_judge.specs.Goals.{duties_in}
 use Rattle.round_judge.specs.Evidence.{evidence_until, HasEvidenceTo}
@@ -96,7 +96,7 @@ evidence_there to old changes c e stands =
     (λ j less. same_prefix to old changes (c ∷ []) j less) e stands.so_far
 
 -- the search goes on
-pub stands_more : (to : Target) (old : List (List Rule)) (changes : List Change) (c : Change) (e more : OrderedEvidence) (found : List Found)
+pub stands_more : (to : Target) (old : List (List Rule)) (changes : List Change) (c : Change) (e more : OrderedEvidence) (found : List FoundEvidence)
     → Stands to old changes e → IsFirstQualifying to (tables_after changes old) (remaining_changes (tables_after changes old) to.new) c
     → IsStored e → AreSafeBelow to (update_by to old (changes ++ c ∷ [])) e (length changes) (class_count to.classes) found
     → AreWithPicks e (suc (length changes)) found more → IsStored more → Stands to old (changes ++ c ∷ []) more

@@ -11,7 +11,7 @@ ghost use Rattle.update_model.specs.Remaining.{remaining_changes};
 ghost use Rattle.update_model.specs.declared.Change.{Change as ChangeOf};
 ghost use Rattle.round_tables.specs.Trials.{IsBetweenTrials, IsTrying};
 ghost use Rattle.evidence_store.specs.Stored.{IsStored, no_evidence};
-ghost use Rattle.round_judge.specs.declared.judging.Found.{Found as FoundOf};
+ghost use Rattle.round_judge.specs.declared.judging.FoundEvidence.{FoundEvidence as FoundOf};
 ghost use Rattle.round_planner.specs.Search.{IsFirstQualifying, update_by};
 ghost use Rattle.round_judge.specs.Judged.{AreSafeBelow};
 ghost use Rattle.round_planner.specs.declared.left.RemainingChange.{RemainingChange as LeftOf};
@@ -27,7 +27,9 @@ use class_watch::{ClassWatch, LookedAtoms};
 use evidence_store::EvidenceStore;
 use flow_rules::Config;
 use net_base::Memory;
-use round_judge::{Found, Goal, RoundVerdict, TriedRound, judge_all, put_picks, watch_rooms};
+use round_judge::{
+    FoundEvidence, Goal, RoundVerdict, TriedRound, judge_all, put_picks, watch_rooms,
+};
 use round_tables::PreparedTables;
 use std::alloc::Global;
 use std::marker::Model;
@@ -144,7 +146,7 @@ impl Search {
         alloc: Global,
         goal: &Goal,
         change: &Change,
-        found: Vec<Found>,
+        found: Vec<FoundEvidence>,
     ) -> Result<(), Memory>
         requires { (old : List (List Rule)) × (changes : List ChangeOf)
             × IsUserConfig goal.now.net old × IsTryingAt goal.now old changes change.now self.old

@@ -8,15 +8,15 @@ use Rattle.schedule_replay.specs.Traces.{phase_line}
 use Rattle.switch_session.specs.Causes.{cause_text}
 use Rattle.switch_session.specs.declared.Cause.{Cause}
 use Rattle.two_way_driver.specs.Laws.{phase_of}
-use Rattle.two_way_driver.specs.declared.Logged.{Logged}
-use Rattle.two_way_driver.specs.declared.Logged.TheVariants as logged
-use Rattle.two_way_driver.specs.declared.Said.{Said}
-use Rattle.two_way_driver.specs.declared.Said.TheVariants.{Send, Failed, Log}
+use Rattle.two_way_driver.specs.declared.DriverEvent.{DriverEvent}
+use Rattle.two_way_driver.specs.declared.DriverEvent.TheVariants as logged
+use Rattle.two_way_driver.specs.declared.DriverOutput.{DriverOutput}
+use Rattle.two_way_driver.specs.declared.DriverOutput.TheVariants.{Send, Failed, Log}
 use Rattle.serve_lines.specs.declared.blocks.Outcome.{Outcome}
 use Rattle.serve_lines.specs.declared.blocks.Outcome.TheVariants.{Went, Running, Finished, NotBegun, NotOpen, BadLine}
 
 -- an event, as in a schedule; a round that is taken back settles too
-abbrev pub event_text : Logged → List ℕ
+abbrev pub event_text : DriverEvent → List ℕ
 event_text logged.Start = codes "start"
 event_text (logged.Change i) = codes "change " ++ decimal i
 event_text logged.Settle = codes "settle"
@@ -33,7 +33,7 @@ abbrev pub failed_line : List ℕ → Cause → List ℕ
 failed_line name c = codes "failed " ++ name ++ codes " " ++ cause_text c
 
 -- the line on what a driver says
-abbrev pub said_line : Network → Said → List ℕ
+abbrev pub said_line : Network → DriverOutput → List ℕ
 said_line net (Send s bytes) = send_line (switch_text net s) bytes
 said_line net (Failed s c) = failed_line (switch_text net s) c
 said_line net (Log e) = event_text e
@@ -48,5 +48,5 @@ outcome_line net rounds (NotOpen s) = codes "no open " ++ switch_text net s
 outcome_line net rounds BadLine = codes "bad line"
 
 -- a block: what the driver says, in order, and how the line ended
-unfoldable pub block_text : Network → ℕ → List Said → Outcome → List ℕ
+unfoldable pub block_text : Network → ℕ → List DriverOutput → Outcome → List ℕ
 block_text net rounds said outcome = text_of (map (said_line net) said ++ outcome_line net rounds outcome ∷ [])

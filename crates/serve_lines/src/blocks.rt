@@ -11,7 +11,7 @@ use schedule_replay::{add_line, switch_text};
 use std::alloc::Global;
 use switch_session::cause_text;
 use topology::Net;
-use two_way_driver::{Cause, Logged, Said, Stage};
+use two_way_driver::{Cause, DriverEvent, DriverOutput, Stage};
 
 /// How a line ended.
 #[derive(Clone, Copy, Debug, PartialEq, Eq)]
@@ -50,32 +50,45 @@ fn failed_line(alloc: Global, name: &str, cause: Cause) -> Result<Vec<u8>, Memor
 }
 
 /// The line on an event.
-fn event_line(alloc: Global, event: Logged) -> Result<Vec<u8>, Memory>
+fn event_line(alloc: Global, event: DriverEvent) -> Result<Vec<u8>, Memory>
     ensures { IfOk result (λ t. t.items ≡ blocks.event_text event) }
 {
     match event {
-        Logged::Start => Ok(b"start".to_vec(alloc)?),
-        Logged::Change(i) => Ok(format!(in alloc; "change {i}")?.into_bytes()),
-        Logged::Settle => Ok(b"settle".to_vec(alloc)?),
-        Logged::Back => Ok(b"back".to_vec(alloc)?),
-        Logged::Undo(i) => Ok(format!(in alloc; "undo {i}")?.into_bytes()),
-        Logged::SettleBack => Ok(b"settle".to_vec(alloc)?),
+        DriverEvent::Start => Ok(b"start".to_vec(alloc)?),
+        DriverEvent::Change(i) => Ok(format!(in alloc; "change {i}")?.into_bytes()),
+        DriverEvent::Settle => Ok(b"settle".to_vec(alloc)?),
+        DriverEvent::Back => Ok(b"back".to_vec(alloc)?),
+        DriverEvent::Undo(i) => Ok(format!(in alloc; "undo {i}")?.into_bytes()),
+        DriverEvent::SettleBack => Ok(b"settle".to_vec(alloc)?),
     }
 }
 
 /// The line on what a driver says.
-fn said_line(alloc: Global, net: &Net, said: &Said) -> Result<Vec<u8>, Memory>
+fn said_line(alloc: Global, net: &Net, said: &DriverOutput) -> Result<Vec<u8>, Memory>
     ensures { IfOk result (λ t. t.items ≡ blocks.said_line net.now said.now) }
 {
     match said {
-        Said::Send(switch, text) => send_line(alloc, switch_text(net, *switch), text.bytes()),
-        Said::Failed(switch, cause) => failed_line(alloc, switch_text(net, *switch), *cause),
-        Said::Log(event) => event_line(alloc, *event),
+        DriverOutput::Send(switch, text) => send_line(
+            alloc,
+            switch_text(net, *switch),
+            text.bytes(),
+        ),
+        DriverOutput::Failed(switch, cause) => failed_line(
+            alloc,
+            switch_text(net, *switch),
+            *cause,
+        ),
+        DriverOutput::Log(event) => event_line(alloc, *event),
     }
 }
 
 /// Adds the line on what a driver says.
-fn add_said_line(text: &mut Vec<u8>, alloc: Global, net: &Net, said: &Said) -> Result<(), Memory>
+fn add_said_line(
+    text: &mut Vec<u8>,
+    alloc: Global,
+    net: &Net,
+    said: &DriverOutput,
+) -> Result<(), Memory>
     ensures { OnOk result
         (text.new.items ≡ text.old.items ++ blocks.said_line net.now said.now ++ 10 ∷ []) }
 {
@@ -86,7 +99,12 @@ fn add_said_line(text: &mut Vec<u8>, alloc: Global, net: &Net, said: &Said) -> R
 }
 
 /// Adds the lines on what a driver says.
-fn add_said(text: &mut Vec<u8>, alloc: Global, net: &Net, said: &[Said]) -> Result<(), Memory>
+fn add_said(
+    text: &mut Vec<u8>,
+    alloc: Global,
+    net: &Net,
+    said: &[DriverOutput],
+) -> Result<(), Memory>
     ensures { OnOk result
         (text.new.items ≡ text.old.items ++ text_of (map (blocks.said_line net.now) said.now)) }
 {
@@ -175,7 +193,7 @@ pub fn block_text(
     alloc: Global,
     net: &Net,
     rounds: usize,
-    said: &[Said],
+    said: &[DriverOutput],
     outcome: Outcome,
 ) -> Result<Vec<u8>, Memory>
     ensures { IfOk result

@@ -15,7 +15,7 @@ use Rattle.two_way_driver.specs.Calls.{DriverView, silent_view, start_fault, bac
 use Rattle.two_way_driver.specs.Laws.{Call, IsCall, after_call, after_calls}
 use Rattle.two_way_driver.specs.Laws as call
 use Rattle.two_way_driver.specs.Words.{after_call_anew, after_calls_anew, said_by_each, joined_words}
-use Rattle.two_way_driver.specs.declared.Said.{Said}
+use Rattle.two_way_driver.specs.declared.DriverOutput.{DriverOutput}
 use Rattle.two_way_driver.proofs.WordLaws.{calls_said, calls_kept}
 use Rattle.serve_lines.specs.Lines.{reopened_in, fed_in, worded_in, text_in, spelled_in, line_in, IsLineOf}
 use Rattle.serve_lines.specs.declared.fault.LineFault.{LineFault}
@@ -90,7 +90,7 @@ behind-append m lines more = after_lines-append (silent_view (driver_of m [])) l
 -- ---- what is said, call by call
 
 -- what a call says, if there is one, to a driver that forgot, and the driver behind it
-abbrev pub said_given : DriverView → Option Call → List Said
+abbrev pub said_given : DriverView → Option Call → List DriverOutput
 said_given w None = []
 said_given w (Some c) = (after_call_anew w c).state.said
 
@@ -140,8 +140,8 @@ lines_said net w (line ∷ lines) same =
     let calls = calls_in net lines in
     let rest = lines_said net (given w o) lines (given_net w o ∙ same) in
     ap (λ (v : DriverView). (told_line (silent_view w) line).said ++ said_in (told_lines v lines)) (line_behind w line)
-    ∙ ap (λ (t : List Said). t ++ said_in (told_lines (silent_view (given w o)) lines)) (read_said w (line_in w.net line))
-    ∙ ap (λ (t : List Said). said_given w o ++ t) rest ∙ more_said w o calls ∙ ap (λ (n : Network). joined_words (said_by_each w (cons_option (call_in n line) calls))) same
+    ∙ ap (λ (t : List DriverOutput). t ++ said_in (told_lines (silent_view (given w o)) lines)) (read_said w (line_in w.net line))
+    ∙ ap (λ (t : List DriverOutput). said_given w o ++ t) rest ∙ more_said w o calls ∙ ap (λ (n : Network). joined_words (said_by_each w (cons_option (call_in n line) calls))) same
 
 lines_behind : (net : Network) (w : DriverView) (lines : List (List ℕ)) → w.net ≡ net → after_lines (silent_view w) lines ≡ silent_view (after_calls_anew w (calls_in net lines))
 lines_behind net w [] same = refl
@@ -155,7 +155,7 @@ lines_behind net w (line ∷ lines) same =
 pub words_are : (m : CheckMeaning) (lines : List (List ℕ)) → said_in (told_on m lines) ≡ (driver_of m (calls_in m.update.net lines)).state.said
 words_are m lines =
     let v = driver_of m [] in
-    ap (λ (t : List Said). v.state.said ++ t) (lines_said m.update.net v lines refl) ∙ sym (calls_said v (calls_in m.update.net lines))
+    ap (λ (t : List DriverOutput). v.state.said ++ t) (lines_said m.update.net v lines refl) ∙ sym (calls_said v (calls_in m.update.net lines))
 
 -- and the driver is the one behind these calls, but that it forgot what it said
 pub driver_is : (m : CheckMeaning) (lines : List (List ℕ)) → driver_behind m lines ≡ silent_view (driver_of m (calls_in m.update.net lines))

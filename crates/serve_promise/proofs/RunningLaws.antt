@@ -23,7 +23,7 @@ use Rattle.two_way_driver.specs.Laws.{Call, events_in, phase_of, SaysRun, Begins
 use Rattle.two_way_driver.specs.Laws as call
 use Rattle.two_way_driver.specs.Words.{with_words, after_call_anew}
 use Rattle.two_way_driver.specs.Sending.{texts_to, Sends}
-use Rattle.two_way_driver.specs.declared.Said.{Said}
+use Rattle.two_way_driver.specs.declared.DriverOutput.{DriverOutput}
 use Rattle.two_way_driver.specs.declared.Stage.{Stage}
 use Rattle.two_way_driver.specs.declared.faults.CallFault.{CallFault}
 use Rattle.two_way_driver.proofs.RunLaws.{says_run, begins_answered}
@@ -129,13 +129,13 @@ module _ (files : Files) (names : CheckNames) (m : CheckMeaning) (mean : FilesMe
 
     phase_is : (lines : List (List ℕ)) → (state_on m lines).phase ≡ phase_of (driver_behind m lines).state.stage
     phase_is lines =
-        ap (λ (w : List Said). (state_after_two_way u (events_in w)).phase) (words_are m lines) ∙ (says lines).phase
+        ap (λ (w : List DriverOutput). (state_after_two_way u (events_in w)).phase) (words_are m lines) ∙ (says lines).phase
         ∙ sym (ap (λ (v : DriverView). phase_of v.state.stage) (driver_is m lines))
 
     pub tells_run : (lines : List (List ℕ)) → TellsRun m lines
     tells_run lines = record {
-      run = subst (λ (w : List Said). IsTwoWayRun u (events_in w)) (sym (words_are m lines)) (says lines).run;
-      no_packets = subst (λ (w : List Said). (state_after_two_way u (events_in w)).packets ≡ []) (sym (words_are m lines)) (says lines).no_packets;
+      run = subst (λ (w : List DriverOutput). IsTwoWayRun u (events_in w)) (sym (words_are m lines)) (says lines).run;
+      no_packets = subst (λ (w : List DriverOutput). (state_after_two_way u (events_in w)).packets ≡ []) (sym (words_are m lines)) (says lines).no_packets;
       phase = phase_is lines;
       waits = subst BeginsAnswered (sym (driver_is m lines)) (waits_silent (driver_of m (calls_in net lines)) (waits lines));
     }
@@ -159,9 +159,9 @@ module _ (files : Files) (names : CheckNames) (m : CheckMeaning) (mean : FilesMe
         (subst (λ (cs : List Call). Agree net rounds (onward.driver_after net rounds calls) (driver_of m cs)) (sym same) both)
         in
         record {
-          sent = λ s less. ap (λ (w : List Said). concat (texts_to s w)) (words_are m lines) ∙ agree.sent s less;
+          sent = λ s less. ap (λ (w : List DriverOutput). concat (texts_to s w)) (words_are m lines) ∙ agree.sent s less;
           events = ap events_in (words_are m lines) ∙ agree.events;
-          phase = ap (λ (w : List Said). (state_after_two_way u (events_in w)).phase) (words_are m lines) ∙ (says lines).phase ∙ agree.phase;
+          phase = ap (λ (w : List DriverOutput). (state_after_two_way u (events_in w)).phase) (words_are m lines) ∙ (says lines).phase ∙ agree.phase;
         }
 
     -- lines that are taken are inputs that `drive` takes
@@ -215,8 +215,8 @@ module _ (files : Files) (names : CheckNames) (m : CheckMeaning) (mean : FilesMe
       let one : (told_line w rest).said ≡ (fed_view s b w).state.said = fed_said w rest s b rest_feeds in
       record {
         said =
-            fed_said v whole s (a ++ b) whole_feeds ∙ said_twice v s a b ∙ ap (λ (t : List Said). t ++ (fed_view s b w).state.said) (sym (fed_said v front s a front_feeds))
-            ∙ ap (λ (t : List Said). (told_line v front).said ++ t) (sym one) ∙ ap (λ (x : DriverView). (told_line v front).said ++ (told_line x rest).said) (sym w_is);
+            fed_said v whole s (a ++ b) whole_feeds ∙ said_twice v s a b ∙ ap (λ (t : List DriverOutput). t ++ (fed_view s b w).state.said) (sym (fed_said v front s a front_feeds))
+            ∙ ap (λ (t : List DriverOutput). (told_line v front).said ++ t) (sym one) ∙ ap (λ (x : DriverView). (told_line v front).said ++ (told_line x rest).said) (sym w_is);
         driver =
             behind-append m lines (whole ∷ []) ∙ fed_behind v whole s (a ++ b) whole_feeds ∙ behind_twice v s a b
             ∙ sym (behind-append m lines (front ∷ rest ∷ []) ∙ ap (λ (x : DriverView). after_line x rest) (fed_behind v front s a front_feeds) ∙ fed_behind w rest s b rest_feeds);

@@ -5,7 +5,7 @@ use Rattle.round_inverses.specs.Rounds.{inverse_rounds}
 use Rattle.two_way_driver.specs.Calls.{DriverView, silent_view}
 use Rattle.two_way_driver.specs.Laws.{Call, driver_after}
 use Rattle.two_way_driver.specs.Laws as call
-use Rattle.two_way_driver.specs.declared.Said.{Said}
+use Rattle.two_way_driver.specs.declared.DriverOutput.{DriverOutput}
 use Rattle.serve_lines.specs.Lines.{line_in}
 use Rattle.serve_lines.specs.Blocks.{block_text}
 use Rattle.serve_lines.specs.declared.fault.LineFault.{LineFault}
@@ -19,7 +19,7 @@ use Rattle.check_base.specs.Checks.{CheckMeaning}
 
 -- what a block tells: what the driver says, in order, and how the line ended
 pub record BlockContent : Type 0 where
-  pub said : List Said
+  pub said : List DriverOutput
   pub outcome : Outcome
 
 -- the block that tells it, in an update of so many rounds
@@ -43,7 +43,7 @@ told_lines v [] = []
 told_lines v (line ∷ lines) = told_line v line ∷ told_lines (after_line v line) lines
 
 -- all that blocks tell of what the driver says, in order
-abbrev pub said_in : List BlockContent → List Said
+abbrev pub said_in : List BlockContent → List DriverOutput
 said_in tolds = flat_map (λ t. t.said) tolds
 
 -- ---- the driver of a plan

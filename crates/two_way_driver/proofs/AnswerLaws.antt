@@ -16,11 +16,11 @@ use Rattle.switch_session.specs.declared.fronts.Front.TheVariants.{Short, Fault,
 use Rattle.switch_session.proofs.FrontLaws.{message_ends}
 use Rattle.switch_session.proofs.ByteLaws.{reading_byte, failed_stays, with_unread, long, size, message_whole, message_echo}
 use Rattle.two_way_driver.specs.Peers.{failure_in, heard_of, heard_by}
-use Rattle.two_way_driver.specs.declared.peers.Heard.{Heard}
-use Rattle.two_way_driver.specs.declared.peers.Heard.TheVariants.{Nothing, Opened, Answered, Replied, Broke}
+use Rattle.two_way_driver.specs.declared.peers.ByteOutcome.{ByteOutcome}
+use Rattle.two_way_driver.specs.declared.peers.ByteOutcome.TheVariants.{Nothing, Opened, Answered, Replied, Broke}
 
 -- what was heard makes a driver send this, and the session isn't opened by it
-abbrev pub HeardAs : Heard → List (List ℕ) → Type 0
+abbrev pub HeardAs : ByteOutcome → List (List ℕ) → Type 0
 HeardAs Nothing texts = texts ≡ []
 HeardAs Opened texts = ⊥
 HeardAs Answered texts = texts ≡ []
@@ -46,7 +46,7 @@ false_true : {A : Type 0} (b : Bool) → b ≡ false → b ≡ true → A
 false_true b f t = absurd (let g : false ≡ true = sym f ∙ t in cc)
 
 module _ (ch after : ChannelState) (closed : (is_open after.session && not (is_open ch.session)) ≡ false) where
-  abbrev Hears : Heard → Type 0
+  abbrev Hears : ByteOutcome → Type 0
   Hears h = HeardAs h []
 
   heard_quiet : after.sent ≡ ch.sent → HeardAs (heard_by ch after) []
@@ -65,7 +65,7 @@ module _ (ch after : ChannelState) (closed : (is_open after.session && not (is_o
   heard_reply text some same sent =
       let quiet = cond (is_failed ch.session) Nothing (failure_in after.session) in
       let reply = cond (ltb (length ch.sent) (length after.sent)) (Replied (drop (length ch.sent) after.sent)) quiet in
-      let Hears_it : Heard → Type 0 = λ h. HeardAs h (text ∷ []) in
+      let Hears_it : ByteOutcome → Type 0 = λ h. HeardAs h (text ∷ []) in
       let more : length after.sent ≡ length ch.sent + length text = ap length sent ∙ length-append ch.sent text in
       cond_both (is_some ch.outstanding && is_none after.outstanding) Answered (cond (is_open after.session && not (is_open ch.session)) Opened reply) Hears_it
       (λ t. false_true _ (ap (λ (o : Option ℕ). is_some ch.outstanding && is_none o) same ∙ some_none ch.outstanding) t)

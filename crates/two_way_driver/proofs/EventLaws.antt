@@ -19,21 +19,21 @@ use Rattle.two_way_runs.proofs.Flags.{turned_get}
 use Rattle.two_way_runs.proofs.Turning.{Sound, TablesAre, sound_both_ways}
 use Rattle.two_way_driver.specs.Drivers.{log_if, change_notes, undo_notes}
 use Rattle.two_way_driver.specs.Laws.{event_of, event_in, events_in}
-use Rattle.two_way_driver.specs.declared.Logged.{Logged}
-use Rattle.two_way_driver.specs.declared.Logged.TheVariants as logged
-use Rattle.two_way_driver.specs.declared.Said.{Said}
-use Rattle.two_way_driver.specs.declared.Said.TheVariants.{Log}
+use Rattle.two_way_driver.specs.declared.DriverEvent.{DriverEvent}
+use Rattle.two_way_driver.specs.declared.DriverEvent.TheVariants as logged
+use Rattle.two_way_driver.specs.declared.DriverOutput.{DriverOutput}
+use Rattle.two_way_driver.specs.declared.DriverOutput.TheVariants.{Log}
 
 module _ (net : Network) (rounds : List (List Change)) (old : List (List Rule)) (good : AreGoodRounds (record { net = net; old = old; rounds = rounds })) where
   abbrev pub u : Rollout
   u = record { net = net; old = old; rounds = rounds }
 
   -- the events that were said are a run that leads to a state
-  pub record Reaches (said : List Said) (st : TwoWayState) : Type 0 where
+  pub record Reaches (said : List DriverOutput) (st : TwoWayState) : Type 0 where
     pub run : IsTwoWayRun u (events_in said)
     pub is : state_after_two_way u (events_in said) ≡ st
 
-  pub sound_at : (said : List Said) (st : TwoWayState) → Reaches said st → Sound u st
+  pub sound_at : (said : List DriverOutput) (st : TwoWayState) → Reaches said st → Sound u st
   sound_at said st r = subst (Sound u) r.is (sound_both_ways u good (events_in said) r.run)
 
   enabled-append : (st : TwoWayState) (es : List TwoWayEvent) (e : TwoWayEvent) → AreTwoWayEnabled u st es → IsTwoWayEnabled u (two_way_state u st es) e → AreTwoWayEnabled u st (es ++ e ∷ [])
@@ -45,7 +45,7 @@ module _ (net : Network) (rounds : List (List Change)) (old : List (List Rule)) 
   state-append st (f ∷ es) e = state-append (two_way_after u st f) es e
 
   -- one event more
-  pub logs : (said : List Said) (st : TwoWayState) (e : Logged) → Reaches said st → IsTwoWayEnabled u st (event_of e) → Reaches (said ++ Log e ∷ []) (two_way_after u st (event_of e))
+  pub logs : (said : List DriverOutput) (st : TwoWayState) (e : DriverEvent) → Reaches said st → IsTwoWayEnabled u st (event_of e) → Reaches (said ++ Log e ∷ []) (two_way_after u st (event_of e))
   logs said st e r may =
       let split : events_in (said ++ Log e ∷ []) ≡ events_in said ++ event_of e ∷ [] = filter_map-append event_in said (Log e ∷ []) in
       let here : IsTwoWayEnabled u (state_after_two_way u (events_in said)) (event_of e) = subst (λ x. IsTwoWayEnabled u x (event_of e)) (sym r.is) may in
@@ -55,7 +55,7 @@ module _ (net : Network) (rounds : List (List Change)) (old : List (List Rule)) 
       }
 
   -- what is said besides events makes no difference
-  pub says : (said words : List Said) (st : TwoWayState) → events_in words ≡ [] → Reaches said st → Reaches (said ++ words) st
+  pub says : (said words : List DriverOutput) (st : TwoWayState) → events_in words ≡ [] → Reaches said st → Reaches (said ++ words) st
   says said words st none r =
       let same : events_in (said ++ words) ≡ events_in said = filter_map-append event_in said words ∙ ap (λ l. events_in said ++ l) none ∙ append-nil (events_in said) in
       record { run = subst (IsTwoWayRun u) (sym same) r.run; is = ap (state_after_two_way u) same ∙ r.is }
@@ -78,7 +78,7 @@ module _ (net : Network) (rounds : List (List Change)) (old : List (List Rule)) 
     abbrev AreStill : Bool → ℕ → TwoWayState → Type 0
     AreStill value i st = (n : ℕ) (c : Change) → i ≤ n → slice_get round n ≡ Some c → is_here c ≡ true → slice_get st.in_force n ≡ Some value
 
-    may_change : (said : List Said) (i : ℕ) (c : Change) (st : TwoWayState) → Reaches said st → st.phase ≡ Running (suc k) → slice_get round i ≡ Some c → slice_get st.in_force i ≡ Some false
+    may_change : (said : List DriverOutput) (i : ℕ) (c : Change) (st : TwoWayState) → Reaches said st → st.phase ≡ Running (suc k) → slice_get round i ≡ Some c → slice_get st.in_force i ≡ Some false
         → IsTwoWayEnabled u st (Onward (event.Change i))
     may_change said i c st r running at off =
         let sound = sound_at said st r in
@@ -154,12 +154,12 @@ module _ (net : Network) (rounds : List (List Change)) (old : List (List Rule)) 
     }
 
     -- the state behind some words
-    pub record Leads (value : Bool) (i : ℕ) (a : TwoWayState) (said : List Said) : Type 0 where
+    pub record Leads (value : Bool) (i : ℕ) (a : TwoWayState) (said : List DriverOutput) : Type 0 where
       pub state : TwoWayState
       pub reaches : Reaches said state
       pub set : AreSet value i a state
 
-    pub changes_made : (changes : List Change) (i : ℕ) (said : List Said) (st : TwoWayState) → drop i round ≡ changes → Reaches said st → st.phase ≡ Running (suc k) → AreStill false i st
+    pub changes_made : (changes : List Change) (i : ℕ) (said : List DriverOutput) (st : TwoWayState) → drop i round ≡ changes → Reaches said st → st.phase ≡ Running (suc k) → AreStill false i st
         → Leads true i st (said ++ change_notes s i changes)
     changes_made [] i said st are r running off = record { state = st; reaches = subst (λ l. Reaches l st) (sym (append-nil said)) r; set = none_set true i st are }
     changes_made (c ∷ changes) i said st are r running off =
@@ -180,7 +180,7 @@ module _ (net : Network) (rounds : List (List Change)) (old : List (List Rule)) 
               record { state = rest.state; reaches = subst (λ l. Reaches l rest.state) words rest.reaches; set = set_past true i c st rest.state at away rest.set })
         ]
 
-    pub changes_undone : (changes : List Change) (i : ℕ) (said : List Said) (st : TwoWayState) → drop i round ≡ changes → Reaches said st → st.phase ≡ Running (suc k) → AreStill true i st
+    pub changes_undone : (changes : List Change) (i : ℕ) (said : List DriverOutput) (st : TwoWayState) → drop i round ≡ changes → Reaches said st → st.phase ≡ Running (suc k) → AreStill true i st
         → Leads false i st (said ++ undo_notes s i changes)
     changes_undone [] i said st are r running on = record { state = st; reaches = subst (λ l. Reaches l st) (sym (append-nil said)) r; set = none_set false i st are }
     changes_undone (c ∷ changes) i said st are r running on =

@@ -38,11 +38,11 @@ use Rattle.two_way_driver.specs.Calls.{AreTurnable, DriverView, with_state, IsSt
 use Rattle.two_way_driver.specs.Laws.{Call, Start, Back, Reopen, Feed, IsCall, after_call, after_calls, driver_after, event_in, events_in, phase_of, InForceBySwitch, InForceAs, rollout_of, SaysRun, AllAreFree, BeginsAnswered}
 use Rattle.two_way_driver.specs.declared.Stage.{Stage}
 use Rattle.two_way_driver.specs.declared.Stage.TheVariants.{Settled, Onward, Undone}
-use Rattle.two_way_driver.specs.declared.Logged.TheVariants as logged
-use Rattle.two_way_driver.specs.declared.Said.{Said}
-use Rattle.two_way_driver.specs.declared.Said.TheVariants.{Send, Failed, Log}
-use Rattle.two_way_driver.specs.declared.peers.Heard.{Heard}
-use Rattle.two_way_driver.specs.declared.peers.Heard.TheVariants.{Nothing, Opened, Answered, Replied}
+use Rattle.two_way_driver.specs.declared.DriverEvent.TheVariants as logged
+use Rattle.two_way_driver.specs.declared.DriverOutput.{DriverOutput}
+use Rattle.two_way_driver.specs.declared.DriverOutput.TheVariants.{Send, Failed, Log}
+use Rattle.two_way_driver.specs.declared.peers.ByteOutcome.{ByteOutcome}
+use Rattle.two_way_driver.specs.declared.peers.ByteOutcome.TheVariants.{Nothing, Opened, Answered, Replied}
 use Rattle.two_way_driver.specs.declared.faults.CallFault.TheVariants as fault
 use Rattle.two_way_driver.proofs.EventLaws.{Reaches, sound_at, logs, says, AreSet, changes_made, changes_undone}
 
@@ -222,7 +222,7 @@ module _ (net : Network) (rounds inverses : List (List Change)) (old : List (Lis
 
   -- ---- words and peers
 
-  follows_says : (d : DriverState) (words : List Said) → events_in words ≡ [] → Follows d → Follows (with_said words d)
+  follows_says : (d : DriverState) (words : List DriverOutput) → events_in words ≡ [] → Follows d → Follows (with_said words d)
   follows_says d words none f = record {
     state = f.state;
     reaches = says net rounds old good d.said words f.state none f.reaches;
@@ -528,7 +528,7 @@ module _ (net : Network) (rounds inverses : List (List Change)) (old : List (Lis
         both_of true (Some n) e = absurd (let g : false ≡ true = e in cc)
         both_of false o e = absurd (let g : false ≡ true = e in cc)
 
-    abbrev Hears : Heard → Type 0
+    abbrev Hears : ByteOutcome → Type 0
     Hears came = Follows (heard_state net rounds inverses s came (with_peer s (peer_after b (peer_at d s)) d))
 
     broke : (session : Session) → Hears (failure_in session)

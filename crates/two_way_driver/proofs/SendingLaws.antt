@@ -32,13 +32,13 @@ use Rattle.two_way_driver.specs.Words.{after_call_anew, said_by_each, joined_wor
 use Rattle.two_way_driver.specs.Sending.{text_to, texts_to, texts_for, session_at, start_asks, back_asks, asking_messages, unanswered_messages, HasHello, Answers, Sends}
 use Rattle.two_way_driver.specs.declared.Stage.{Stage}
 use Rattle.two_way_driver.specs.declared.Stage.TheVariants.{Settled, Onward, Undone}
-use Rattle.two_way_driver.specs.declared.Logged.{Logged}
-use Rattle.two_way_driver.specs.declared.Logged.TheVariants as logged
-use Rattle.two_way_driver.specs.declared.Said.{Said}
-use Rattle.two_way_driver.specs.declared.Said.TheVariants.{Send, Log}
-use Rattle.two_way_driver.specs.declared.Said.TheVariants as said
-use Rattle.two_way_driver.specs.declared.peers.Heard.{Heard}
-use Rattle.two_way_driver.specs.declared.peers.Heard.TheVariants.{Nothing, Opened, Answered, Replied, Broke}
+use Rattle.two_way_driver.specs.declared.DriverEvent.{DriverEvent}
+use Rattle.two_way_driver.specs.declared.DriverEvent.TheVariants as logged
+use Rattle.two_way_driver.specs.declared.DriverOutput.{DriverOutput}
+use Rattle.two_way_driver.specs.declared.DriverOutput.TheVariants.{Send, Log}
+use Rattle.two_way_driver.specs.declared.DriverOutput.TheVariants as said
+use Rattle.two_way_driver.specs.declared.peers.ByteOutcome.{ByteOutcome}
+use Rattle.two_way_driver.specs.declared.peers.ByteOutcome.TheVariants.{Nothing, Opened, Answered, Replied, Broke}
 use Rattle.two_way_driver.proofs.ReplyLaws.{only_reply}
 use Rattle.two_way_driver.proofs.ServingLaws.{length-asked}
 use Rattle.two_way_driver.proofs.WordLaws.{calls_said}
@@ -47,13 +47,13 @@ use Rattle.two_way_driver.proofs.AnswerLaws.{HeardAs, IsPastHello, no_requests, 
 -- ---- words that send nothing to a switch
 
 module _ (s : SwitchId) where
-  pub texts-append : (a b : List Said) → texts_to s (a ++ b) ≡ texts_to s a ++ texts_to s b
+  pub texts-append : (a b : List DriverOutput) → texts_to s (a ++ b) ≡ texts_to s a ++ texts_to s b
   texts-append a b = filter_map-append (text_to s) a b
 
-  pub quiet : (a b : List Said) → texts_to s b ≡ [] → texts_to s (a ++ b) ≡ texts_to s a
+  pub quiet : (a b : List DriverOutput) → texts_to s b ≡ [] → texts_to s (a ++ b) ≡ texts_to s a
   quiet a b none = texts-append a b ∙ ap (λ (l : List (List ℕ)). texts_to s a ++ l) none ∙ append-nil (texts_to s a)
 
-  log_quiet : (on : Bool) (e : Logged) → texts_to s (log_if on e) ≡ []
+  log_quiet : (on : Bool) (e : DriverEvent) → texts_to s (log_if on e) ≡ []
   log_quiet true e = refl
   log_quiet false e = refl
 
@@ -109,7 +109,7 @@ module _ (s : SwitchId) where
   -- ---- messages to a switch
 
   -- one message, which is sent or not, and is to the switch or not
-  one_sent : (wanted here : Bool) (m : Outgoing) (rest : List Said) → is_to s m ≡ here → texts_to s (send_if wanted m ++ rest) ≡ cond (wanted && here) (m.text ∷ texts_to s rest) (texts_to s rest)
+  one_sent : (wanted here : Bool) (m : Outgoing) (rest : List DriverOutput) → is_to s m ≡ here → texts_to s (send_if wanted m ++ rest) ≡ cond (wanted && here) (m.text ∷ texts_to s rest) (texts_to s rest)
   one_sent true here m rest e = ap (λ b. cons_option (cond b (Some m.text) None) (texts_to s rest)) e ∙ chosen here
     where
       chosen : (b : Bool) → cons_option (cond b (Some m.text) None) (texts_to s rest) ≡ cond b (m.text ∷ texts_to s rest) (texts_to s rest)
@@ -232,7 +232,7 @@ module _ (net : Network) (rounds inverses : List (List Change)) (s : SwitchId) w
         | Some x ↦ PutBack (asks_again x (peer_at e s)) refl (record { session = refl; unread = refl })
       ]
 
-  heard_touches : (came : Heard) (e : DriverState) → Touched s e (heard_state net rounds inverses s came e)
+  heard_touches : (came : ByteOutcome) (e : DriverState) → Touched s e (heard_state net rounds inverses s came e)
   heard_touches Nothing e = AsBefore refl
   heard_touches Opened e = opened_touches (asked_round rounds inverses e.stage) e
   heard_touches Answered e = PutBack (answers (peer_at e s)) (answered_peers (running_round rounds e.stage) s e) (alike_answers (peer_at e s))
@@ -259,7 +259,7 @@ module _ (net : Network) (rounds inverses : List (List Change)) (t s : SwitchId)
         | Some x ↦ quiet s d.said (sends (is_to t) (batch_of net d.first changes)) (texts_away s t (batch_of net d.first changes) ne)
       ]
 
-  pub heard_away : (came : Heard) (d : DriverState) → Quiet s d (heard_state net rounds inverses t came d)
+  pub heard_away : (came : ByteOutcome) (d : DriverState) → Quiet s d (heard_state net rounds inverses t came d)
   heard_away Nothing d = refl
   heard_away Opened d = opened_away (asked_round rounds inverses d.stage) d
   heard_away Answered d = answered_quiet s (running_round rounds d.stage) t d
@@ -289,7 +289,7 @@ module _ (net : Network) (rounds inverses : List (List Change)) (s : SwitchId) w
   abbrev again : DriverState → List (List ℕ)
   again d = cond (is_some (peer_at d s).asked) (texts_for s (batch_of net d.first (asked_round rounds inverses d.stage))) []
 
-  heard_texts : (came : Heard) (texts : List (List ℕ)) (e : DriverState) → HeardAs came texts → texts_to s (heard_state net rounds inverses s came e).said ≡ texts_to s e.said ++ texts
+  heard_texts : (came : ByteOutcome) (texts : List (List ℕ)) (e : DriverState) → HeardAs came texts → texts_to s (heard_state net rounds inverses s came e).said ≡ texts_to s e.said ++ texts
   heard_texts Nothing texts e seen = sym (append-nil (texts_to s e.said)) ∙ ap (λ (l : List (List ℕ)). texts_to s e.said ++ l) (sym seen)
   heard_texts Opened texts e seen = absurd seen
   heard_texts Answered texts e seen = answered_quiet s (running_round rounds e.stage) s e ∙ sym (append-nil (texts_to s e.said)) ∙ ap (λ (l : List (List ℕ)). texts_to s e.said ++ l) (sym seen)
@@ -364,12 +364,12 @@ module _ (net : Network) (rounds inverses : List (List Change)) (s : SwitchId) w
 
     next_nothing : heard_by (channel_of d) after ≡ Nothing → next b d ≡ put
     unfolding fed_byte
-    next_nothing is = ap (λ (h : Heard). heard_state net rounds inverses s h put) is
+    next_nothing is = ap (λ (h : ByteOutcome). heard_state net rounds inverses s h put) is
 
     next_opened : heard_by (channel_of d) after ≡ Opened → texts_to s (next b d).said ≡ texts_to s d.said ++ again d
     unfolding fed_byte
     next_opened is =
-        ap (λ (h : Heard). texts_to s (heard_state net rounds inverses s h put).said) is ∙ opened_texts (asked_round rounds inverses d.stage) put
+        ap (λ (h : ByteOutcome). texts_to s (heard_state net rounds inverses s h put).said) is ∙ opened_texts (asked_round rounds inverses d.stage) put
         ∙ ap (λ (o : Option ℕ). texts_to s d.said ++ cond (is_some o) (texts_for s (batch_of net d.first (asked_round rounds inverses d.stage))) []) put_asked
 
   -- ---- bytes from the switch
@@ -734,7 +734,7 @@ module _ (s : SwitchId) where
         | inr differs ↦ ap (λ b. cons_option (cond b (Some hello) None) rest) (ne_eqb n s.0 differs) ∙ hello_first (suc n) count (omega (arith, differs)) (omega arith)
       ]
 
-  texts_of_each : (pieces : List (List Said)) → texts_to s (joined_words pieces) ≡ flat_map (texts_to s) pieces
+  texts_of_each : (pieces : List (List DriverOutput)) → texts_to s (joined_words pieces) ≡ flat_map (texts_to s) pieces
   texts_of_each [] = refl
   texts_of_each (words ∷ pieces) = texts-append s words (joined_words pieces) ∙ ap (λ (l : List (List ℕ)). texts_to s words ++ l) (texts_of_each pieces)
 

@@ -18,8 +18,8 @@ use Rattle.two_way_driver.specs.Inside.{heard_on, fed_on}
 use Rattle.two_way_driver.specs.declared.legs.Leg.{Leg}
 use Rattle.two_way_driver.specs.declared.Stage.{Stage}
 use Rattle.two_way_driver.specs.declared.Stage.TheVariants.{Settled, Onward, Undone}
-use Rattle.two_way_driver.specs.declared.peers.Heard.{Heard}
-use Rattle.two_way_driver.specs.declared.peers.Heard.TheVariants.{Nothing, Opened, Answered, Replied, Broke}
+use Rattle.two_way_driver.specs.declared.peers.ByteOutcome.{ByteOutcome}
+use Rattle.two_way_driver.specs.declared.peers.ByteOutcome.TheVariants.{Nothing, Opened, Answered, Replied, Broke}
 use Rattle.two_way_driver.specs.declared.faults.CallFault.TheVariants as fault
 
 pub length-asked : (x : ℕ) (round : List Change) (n : ℕ) (peers : List PeerState) → length (asked_from x round n peers) ≡ length peers
@@ -78,7 +78,7 @@ module _ (net : Network) (rounds inverses : List (List Change)) (count : ℕ) wh
         | Some x ↦ record { peers = length-set d.peers s.0 _ ∙ h.peers; flags = h.flags; stage = h.stage }
       ]
 
-  kept_heard : (s : SwitchId) (came : Heard) (d : DriverState) → IsKept d → IsKept (heard_state net rounds inverses s came d)
+  kept_heard : (s : SwitchId) (came : ByteOutcome) (d : DriverState) → IsKept d → IsKept (heard_state net rounds inverses s came d)
   kept_heard s Nothing d h = h
   kept_heard s Opened d h = kept_opened (asked_round rounds inverses d.stage) s d h
   kept_heard s Answered d h = kept_answered (running_round rounds d.stage) s d h
@@ -149,7 +149,7 @@ serving_byte s b v h = serving_fed s (b ∷ []) v h
 -- ---- bytes, one after the other
 
 module _ (leg : Leg) (net : Network) (rounds inverses : List (List Change)) (s : SwitchId) where
-  heard_on_is : (came : Heard) (d : DriverState) → leg.net.now ≡ net → leg.round.now ≡ running_round rounds d.stage → leg.asked.now ≡ asked_round rounds inverses d.stage
+  heard_on_is : (came : ByteOutcome) (d : DriverState) → leg.net.now ≡ net → leg.round.now ≡ running_round rounds d.stage → leg.asked.now ≡ asked_round rounds inverses d.stage
       → heard_on leg s came d ≡ heard_state net rounds inverses s came d
   heard_on_is Nothing d same round asked = refl
   heard_on_is Opened d same round asked = ap (λ n. opened_state n leg.asked.now s d) same ∙ ap (λ l. opened_state net l s d) asked

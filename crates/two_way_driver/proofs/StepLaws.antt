@@ -12,16 +12,16 @@ use Rattle.switch_session.specs.Channels.{hello, first_channel, after_message, a
 use Rattle.two_way_driver.specs.PeerStates.{PeerState}
 use Rattle.two_way_driver.specs.Peers.{opened_anew}
 use Rattle.two_way_driver.specs.Drivers.{first_words, log_if, send_if, sends, change_notes, undo_notes, asks_if, next_if, asked_from}
-use Rattle.two_way_driver.specs.declared.Logged.TheVariants as logged
-use Rattle.two_way_driver.specs.declared.Said.{Said}
-use Rattle.two_way_driver.specs.declared.Said.TheVariants.{Send}
+use Rattle.two_way_driver.specs.declared.DriverEvent.TheVariants as logged
+use Rattle.two_way_driver.specs.declared.DriverOutput.{DriverOutput}
+use Rattle.two_way_driver.specs.declared.DriverOutput.TheVariants.{Send}
 
 -- what stands at the front of the rest of a list
 pub front_of_rest : {A : Type 0} (xs : List A) (i : ℕ) (x : A) → i < length xs → x ≡ get_or xs i x → drop i xs ≡ x ∷ drop (i + 1) xs
 front_of_rest {A} xs i x less at = drop-cons xs i x less ∙ ap (λ (y : A). y ∷ drop (suc i) xs) (sym at) ∙ ap (λ (n : ℕ). x ∷ drop n xs) (sym (add-one i))
 
 -- one more is said, and the rest is still to be said
-pub said_one : (before after all one rest whole : List Said) → after ≡ before ++ one → whole ≡ one ++ rest → before ++ whole ≡ all → after ++ rest ≡ all
+pub said_one : (before after all one rest whole : List DriverOutput) → after ≡ before ++ one → whole ≡ one ++ rest → before ++ whole ≡ all → after ++ rest ≡ all
 said_one before after all one rest whole put split so_far = ap (λ l. l ++ rest) put ∙ append_assoc before one rest ∙ ap (λ l. before ++ l) (sym split) ∙ so_far
 
 pub sends_split : (wanted : Outgoing → Bool) (ms : List Outgoing) (i : ℕ) (m : Outgoing) → i < length ms → m ≡ get_or ms i m → sends wanted (drop i ms) ≡ send_if (wanted m) m ++ sends wanted (drop (i + 1) ms)
@@ -38,7 +38,7 @@ undone_split s round i c less at =
     ap (undo_notes s i) (front_of_rest round i c less at) ∙ ap (λ n. undo_notes s n (drop (i + 1) round) ++ log_if (eqb (switch_of c).0 s.0) (logged.Undo i)) (sym (add-one i))
 
 -- one more is said behind what was said last
-pub said_last : (first before after one rest whole : List Said) → after ≡ before ++ one → before ≡ first ++ rest → whole ≡ rest ++ one → after ≡ first ++ whole
+pub said_last : (first before after one rest whole : List DriverOutput) → after ≡ before ++ one → before ≡ first ++ rest → whole ≡ rest ++ one → after ≡ first ++ whole
 said_last first before after one rest whole put so_far split = put ∙ ap (λ l. l ++ one) so_far ∙ append_assoc first rest one ∙ ap (λ l. first ++ l) (sym split)
 
 pub words_split : (n m : ℕ) → n < m → first_words n (m - n) ≡ (Send (record { 0 = n }) hello ∷ []) ++ first_words (n + 1) (m - (n + 1))

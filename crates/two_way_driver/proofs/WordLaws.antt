@@ -12,18 +12,18 @@ use Rattle.two_way_driver.specs.Drivers.{DriverState, peer_at, with_peer, with_s
 use Rattle.two_way_driver.specs.Calls.{DriverView, silent_view, start_fault, back_fault, started_view, turned_view}
 use Rattle.two_way_driver.specs.Laws.{Call, Start, Back, Reopen, Feed, after_call, after_calls}
 use Rattle.two_way_driver.specs.Words.{said_first, with_words, after_call_anew, after_calls_anew, said_by_each, joined_words}
-use Rattle.two_way_driver.specs.declared.Said.{Said}
-use Rattle.two_way_driver.specs.declared.Logged.TheVariants as logged
-use Rattle.two_way_driver.specs.declared.Said.TheVariants.{Log}
+use Rattle.two_way_driver.specs.declared.DriverOutput.{DriverOutput}
+use Rattle.two_way_driver.specs.declared.DriverEvent.TheVariants as logged
+use Rattle.two_way_driver.specs.declared.DriverOutput.TheVariants.{Log}
 use Rattle.two_way_driver.specs.declared.Stage.{Stage}
 use Rattle.two_way_driver.specs.declared.Stage.TheVariants.{Settled, Onward, Undone}
-use Rattle.two_way_driver.specs.declared.peers.Heard.{Heard}
-use Rattle.two_way_driver.specs.declared.peers.Heard.TheVariants.{Nothing, Opened, Answered, Replied, Broke}
+use Rattle.two_way_driver.specs.declared.peers.ByteOutcome.{ByteOutcome}
+use Rattle.two_way_driver.specs.declared.peers.ByteOutcome.TheVariants.{Nothing, Opened, Answered, Replied, Broke}
 
-module _ (w : List Said) where
+module _ (w : List DriverOutput) where
   -- words behind others
-  more : (d : DriverState) (base : DriverState) (words : List Said) → record base { said = (w ++ d.said) ++ words } ≡ said_first w (record base { said = d.said ++ words })
-  more d base words = ap (λ (l : List Said). record base { said = l }) (append_assoc w d.said words)
+  more : (d : DriverState) (base : DriverState) (words : List DriverOutput) → record base { said = (w ++ d.said) ++ words } ≡ said_first w (record base { said = d.said ++ words })
+  more d base words = ap (λ (l : List DriverOutput). record base { said = l }) (append_assoc w d.said words)
 
   first_settled : (stage : Stage) (d : DriverState) → settled_in stage (said_first w d) ≡ said_first w (settled_in stage d)
   unfolding settled_in
@@ -46,7 +46,7 @@ module _ (w : List Said) where
   first_undone : (round : List Change) (s : SwitchId) (d : DriverState) → undone_state round s (said_first w d) ≡ said_first w (undone_state round s d)
   unfolding undone_state
   first_undone round s d =
-      let next : List Said → DriverState = λ said. record d { in_force = set d.in_force s.0 false; said = said } in
+      let next : List DriverOutput → DriverState = λ said. record d { in_force = set d.in_force s.0 false; said = said } in
       elim (slice_index_or d.in_force s.0 false) as (λ b. cond b (next ((w ++ d.said) ++ undo_notes s 0 round)) (said_first w d) ≡ said_first w (cond b (next (d.said ++ undo_notes s 0 round)) d)) [
         | true ↦ more d (record d { in_force = set d.in_force s.0 false }) (undo_notes s 0 round)
         | false ↦ refl
@@ -75,7 +75,7 @@ module _ (w : List Said) where
       ]
 
   module _ (net : Network) (rounds inverses : List (List Change)) where
-    first_heard : (s : SwitchId) (came : Heard) (d : DriverState) → heard_state net rounds inverses s came (said_first w d) ≡ said_first w (heard_state net rounds inverses s came d)
+    first_heard : (s : SwitchId) (came : ByteOutcome) (d : DriverState) → heard_state net rounds inverses s came (said_first w d) ≡ said_first w (heard_state net rounds inverses s came d)
     first_heard s Nothing d = refl
     first_heard s Opened d = first_opened net (asked_round rounds inverses d.stage) s d
     first_heard s Answered d = first_answered (running_round rounds d.stage) s d
@@ -99,7 +99,7 @@ module _ (w : List Said) where
   first_turned_with : (net : Network) (changes : List Change) (k : ℕ) (d : DriverState) → turned_with net changes k (said_first w d) ≡ said_first w (turned_with net changes k d)
   first_turned_with net changes k d = ap settled_if_answered (first_sent net changes (Undone k) d) ∙ first_if_answered (sent_out net changes (Undone k) d)
 
-  first_flagged : (on : Bool) (words : List Said) (d : DriverState) → flagged_state on (with_said words (said_first w d)) ≡ said_first w (flagged_state on (with_said words d))
+  first_flagged : (on : Bool) (words : List DriverOutput) (d : DriverState) → flagged_state on (with_said words (said_first w d)) ≡ said_first w (flagged_state on (with_said words d))
   first_flagged on words d = ap (flagged_state on) (more d d words)
 
   first_undone_with : (net : Network) (changes : List Change) (k : ℕ) (d : DriverState) → undone_with net changes k (said_first w d) ≡ said_first w (undone_with net changes k d)
@@ -141,17 +141,17 @@ module _ (w : List Said) where
 
 -- a driver is itself without its words, with them in front
 with_own_words : (v : DriverView) → with_words v.state.said (silent_view v) ≡ v
-with_own_words v = ap (λ (l : List Said). record v { state = record v.state { said = l } }) (append-nil v.state.said)
+with_own_words v = ap (λ (l : List DriverOutput). record v { state = record v.state { said = l } }) (append-nil v.state.said)
 
 pub call_is : (v : DriverView) (c : Call) → after_call v c ≡ with_words v.state.said (after_call_anew v c)
 call_is v c = ap (λ (x : DriverView). after_call x c) (sym (with_own_words v)) ∙ first_call v.state.said (silent_view v) c
 
 -- what each call says doesn't depend on what was said before, nor does what is left else
-same_said : (w : List Said) (v : DriverView) (calls : List Call) → said_by_each (with_words w v) calls ≡ said_by_each v calls
+same_said : (w : List DriverOutput) (v : DriverView) (calls : List Call) → said_by_each (with_words w v) calls ≡ said_by_each v calls
 same_said w v [] = refl
 same_said w v (c ∷ calls) = refl
 
-same_kept : (w : List Said) (v : DriverView) (calls : List Call) → silent_view (after_calls_anew (with_words w v) calls) ≡ silent_view (after_calls_anew v calls)
+same_kept : (w : List DriverOutput) (v : DriverView) (calls : List Call) → silent_view (after_calls_anew (with_words w v) calls) ≡ silent_view (after_calls_anew v calls)
 same_kept w v [] = refl
 same_kept w v (c ∷ calls) = refl
 
@@ -161,7 +161,7 @@ calls_said v (c ∷ calls) =
     let u = after_call_anew v c in
     let w = v.state.said in
     calls_said (after_call v c) calls ∙ ap (λ (x : DriverView). x.state.said ++ joined_words (said_by_each x calls)) (call_is v c)
-    ∙ ap (λ (l : List (List Said)). (w ++ u.state.said) ++ joined_words l) (same_said w u calls) ∙ append_assoc w u.state.said (joined_words (said_by_each u calls))
+    ∙ ap (λ (l : List (List DriverOutput)). (w ++ u.state.said) ++ joined_words l) (same_said w u calls) ∙ append_assoc w u.state.said (joined_words (said_by_each u calls))
 
 pub calls_kept : (v : DriverView) (calls : List Call) → silent_view (after_calls v calls) ≡ silent_view (after_calls_anew v calls)
 calls_kept v [] = refl

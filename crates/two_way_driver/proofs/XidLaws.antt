@@ -16,10 +16,10 @@ use Rattle.two_way_driver.specs.Laws.{Call, Start, Back, Reopen, Feed, after_cal
 use Rattle.two_way_driver.specs.Sending.{start_asks, back_asks, asked_by, GoesOn}
 use Rattle.two_way_driver.specs.declared.Stage.{Stage}
 use Rattle.two_way_driver.specs.declared.Stage.TheVariants.{Settled, Onward, Undone}
-use Rattle.two_way_driver.specs.declared.Logged.TheVariants as logged
-use Rattle.two_way_driver.specs.declared.Said.TheVariants.{Log}
-use Rattle.two_way_driver.specs.declared.peers.Heard.{Heard}
-use Rattle.two_way_driver.specs.declared.peers.Heard.TheVariants.{Nothing, Opened, Answered, Replied, Broke}
+use Rattle.two_way_driver.specs.declared.DriverEvent.TheVariants as logged
+use Rattle.two_way_driver.specs.declared.DriverOutput.TheVariants.{Log}
+use Rattle.two_way_driver.specs.declared.peers.ByteOutcome.{ByteOutcome}
+use Rattle.two_way_driver.specs.declared.peers.ByteOutcome.TheVariants.{Nothing, Opened, Answered, Replied, Broke}
 
 -- ---- the xids
 
@@ -65,7 +65,7 @@ numbers_opened net changes t d =
     ]
 
 module _ (net : Network) (rounds inverses : List (List Change)) where
-  pub numbers_heard : (t : SwitchId) (came : Heard) (d : DriverState) → SameNumbers d (heard_state net rounds inverses t came d)
+  pub numbers_heard : (t : SwitchId) (came : ByteOutcome) (d : DriverState) → SameNumbers d (heard_state net rounds inverses t came d)
   numbers_heard t Nothing d = numbers_refl d
   numbers_heard t Opened d = numbers_opened net (asked_round rounds inverses d.stage) t d
   numbers_heard t Answered d = numbers_answered (running_round rounds d.stage) t d

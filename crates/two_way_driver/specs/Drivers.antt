@@ -14,12 +14,12 @@ use Rattle.two_way_driver.specs.PeerStates.{PeerState}
 use Rattle.two_way_driver.specs.Peers.{first_peer, heard_by, peer_after, asks, asks_again, answers, reopened_peer}
 use Rattle.two_way_driver.specs.declared.Stage.{Stage}
 use Rattle.two_way_driver.specs.declared.Stage.TheVariants.{Settled, Onward, Undone}
-use Rattle.two_way_driver.specs.declared.Logged.{Logged}
-use Rattle.two_way_driver.specs.declared.Logged.TheVariants as logged
-use Rattle.two_way_driver.specs.declared.Said.{Said}
-use Rattle.two_way_driver.specs.declared.Said.TheVariants.{Send, Failed, Log}
-use Rattle.two_way_driver.specs.declared.peers.Heard.{Heard}
-use Rattle.two_way_driver.specs.declared.peers.Heard.TheVariants.{Nothing, Opened, Answered, Replied, Broke}
+use Rattle.two_way_driver.specs.declared.DriverEvent.{DriverEvent}
+use Rattle.two_way_driver.specs.declared.DriverEvent.TheVariants as logged
+use Rattle.two_way_driver.specs.declared.DriverOutput.{DriverOutput}
+use Rattle.two_way_driver.specs.declared.DriverOutput.TheVariants.{Send, Failed, Log}
+use Rattle.two_way_driver.specs.declared.peers.ByteOutcome.{ByteOutcome}
+use Rattle.two_way_driver.specs.declared.peers.ByteOutcome.TheVariants.{Nothing, Opened, Answered, Replied, Broke}
 use Rattle.two_way_driver.specs.declared.faults.CallFault.{CallFault}
 use Rattle.two_way_driver.specs.declared.faults.CallFault.TheVariants as fault
 
@@ -31,7 +31,7 @@ pub record DriverState : Type 0 where
   pub next : ℕ
   pub peers : List PeerState
   pub in_force : List Bool
-  pub said : List Said
+  pub said : List DriverOutput
 
 -- what is kept of a switch
 abbrev pub peer_at : DriverState → SwitchId → PeerState
@@ -41,17 +41,17 @@ abbrev pub with_peer : SwitchId → PeerState → DriverState → DriverState
 with_peer s p d = record d { peers = slice_set d.peers s.0 p }
 
 -- a driver that says more
-abbrev pub with_said : List Said → DriverState → DriverState
+abbrev pub with_said : List DriverOutput → DriverState → DriverState
 with_said words d = record d { said = d.said ++ words }
 
 -- ---- messages
 
 -- a message is said, or not
-abbrev pub send_if : Bool → Outgoing → List Said
+abbrev pub send_if : Bool → Outgoing → List DriverOutput
 send_if wanted m = if wanted then Send m.switch m.text ∷ [] else []
 
 -- those of messages that are wanted, in order
-abbrev pub sends : (Outgoing → Bool) → List Outgoing → List Said
+abbrev pub sends : (Outgoing → Bool) → List Outgoing → List DriverOutput
 sends wanted ms = flat_map (λ m. send_if (wanted m) m) ms
 
 -- a message is to a switch with an open session, or to a switch
@@ -105,17 +105,17 @@ settled_if_answered d = if all_answered d.peers then settled_in d.stage d else d
 -- ---- answers
 
 -- an event is said, or not
-abbrev pub log_if : Bool → Logged → List Said
+abbrev pub log_if : Bool → DriverEvent → List DriverOutput
 log_if wanted event = if wanted then Log event ∷ [] else []
 
 -- the events of a switch's changes that are made, ascending, where the first change has number i
-abbrev pub change_notes : SwitchId → ℕ → List Change → List Said
+abbrev pub change_notes : SwitchId → ℕ → List Change → List DriverOutput
 change_notes s i [] = []
 change_notes s i (c ∷ changes) =
     log_if ((switch_of c).0 == s.0) (logged.Change i) ++ change_notes s (suc i) changes
 
 -- the events of a switch's changes that are taken back, descending
-abbrev pub undo_notes : SwitchId → ℕ → List Change → List Said
+abbrev pub undo_notes : SwitchId → ℕ → List Change → List DriverOutput
 undo_notes s i [] = []
 undo_notes s i (c ∷ changes) =
     undo_notes s (suc i) changes ++ log_if ((switch_of c).0 == s.0) (logged.Undo i)
@@ -165,7 +165,7 @@ asked_round rounds inverses (Onward k) = round_after k rounds
 asked_round rounds inverses (Undone k) = round_after k inverses
 
 -- a driver after this came of a byte from a switch
-abbrev pub heard_state : Network → List (List Change) → List (List Change) → SwitchId → Heard → DriverState → DriverState
+abbrev pub heard_state : Network → List (List Change) → List (List Change) → SwitchId → ByteOutcome → DriverState → DriverState
 heard_state net rounds inverses s Nothing d = d
 heard_state net rounds inverses s Opened d = opened_state net (asked_round rounds inverses d.stage) s d
 heard_state net rounds inverses s Answered d = answered_state (running_round rounds d.stage) s d
@@ -186,7 +186,7 @@ state_after_bytes net rounds inverses s (b ∷ bytes) d = state_after_bytes net 
 -- ---- calls
 
 -- a driver at the beginning: HELLO was sent to each switch, ascending
-abbrev pub first_words : ℕ → ℕ → List Said
+abbrev pub first_words : ℕ → ℕ → List DriverOutput
 first_words n zero = []
 first_words n (suc count) = Send (record { 0 = n }) hello ∷ first_words (suc n) count
 

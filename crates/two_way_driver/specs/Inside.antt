@@ -5,11 +5,11 @@ use Rattle.switch_session.specs.Channels.{after_byte}
 use Rattle.two_way_driver.specs.Peers.{heard_by, peer_after}
 use Rattle.two_way_driver.specs.Drivers.{DriverState, peer_at, with_peer, with_said, opened_state, answered_state}
 use Rattle.two_way_driver.specs.Calls.{DriverView}
-use Rattle.two_way_driver.specs.declared.Said.TheVariants.{Send, Failed}
+use Rattle.two_way_driver.specs.declared.DriverOutput.TheVariants.{Send, Failed}
 use Rattle.two_way_driver.specs.declared.legs.Leg.{Leg}
 use Rattle.two_way_driver.specs.declared.legs.Plan.{Plan}
-use Rattle.two_way_driver.specs.declared.peers.Heard.{Heard}
-use Rattle.two_way_driver.specs.declared.peers.Heard.TheVariants.{Nothing, Opened, Answered, Replied, Broke}
+use Rattle.two_way_driver.specs.declared.peers.ByteOutcome.{ByteOutcome}
+use Rattle.two_way_driver.specs.declared.peers.ByteOutcome.TheVariants.{Nothing, Opened, Answered, Replied, Broke}
 use Rattle.two_way_driver.specs.declared.Stage.{Stage}
 use Rattle.two_way_driver.specs.declared.Stage.TheVariants.{Settled, Onward, Undone}
 use Rattle.two_way_driver.specs.declared.talks.Talks.{Talks}
@@ -29,7 +29,7 @@ FitsNext (Onward k) = k + 1 < 2 ^ 32
 FitsNext (Undone k) = Unit {0}
 
 -- a driver after this came of a byte from a switch, where the running round is this one
-abbrev pub heard_on : Leg → SwitchId → Heard → DriverState → DriverState
+abbrev pub heard_on : Leg → SwitchId → ByteOutcome → DriverState → DriverState
 heard_on leg s Nothing d = d
 heard_on leg s Opened d = opened_state leg.net.now leg.asked.now s d
 heard_on leg s Answered d = answered_state leg.round.now s d

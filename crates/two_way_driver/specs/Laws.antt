@@ -20,10 +20,10 @@ use Rattle.two_way_driver.specs.Drivers.{DriverState, peer_at, first_driver}
 use Rattle.two_way_driver.specs.Calls.{DriverView, start_fault, back_fault, started_view, turned_view, reopened_view, fed_view}
 use Rattle.two_way_driver.specs.declared.Stage.{Stage}
 use Rattle.two_way_driver.specs.declared.Stage.TheVariants.{Settled, Onward, Undone}
-use Rattle.two_way_driver.specs.declared.Logged.{Logged}
-use Rattle.two_way_driver.specs.declared.Logged.TheVariants as logged
-use Rattle.two_way_driver.specs.declared.Said.{Said}
-use Rattle.two_way_driver.specs.declared.Said.TheVariants.{Send, Failed, Log}
+use Rattle.two_way_driver.specs.declared.DriverEvent.{DriverEvent}
+use Rattle.two_way_driver.specs.declared.DriverEvent.TheVariants as logged
+use Rattle.two_way_driver.specs.declared.DriverOutput.{DriverOutput}
+use Rattle.two_way_driver.specs.declared.DriverOutput.TheVariants.{Send, Failed, Log}
 
 -- a call: the next round is to start, the update is to turn back, a session is opened again, or bytes come from a switch
 pub data Call : Type 0 where
@@ -57,7 +57,7 @@ driver_after net rounds inverses calls =
     after_calls (record { net = net; rounds = rounds; inverses = inverses; state = first_driver net }) calls
 
 -- the event of the run that an event is
-abbrev pub event_of : Logged → TwoWayEvent
+abbrev pub event_of : DriverEvent → TwoWayEvent
 event_of logged.Start = two_way.Onward event.Start
 event_of (logged.Change i) = two_way.Onward (event.Change i)
 event_of logged.Settle = two_way.Onward event.Settle
@@ -65,13 +65,13 @@ event_of logged.Back = two_way.Back
 event_of (logged.Undo i) = two_way.Undo i
 event_of logged.SettleBack = two_way.SettleBack
 
-abbrev pub event_in : Said → Option TwoWayEvent
+abbrev pub event_in : DriverOutput → Option TwoWayEvent
 event_in (Send s text) = None
 event_in (Failed s cause) = None
 event_in (Log e) = Some (event_of e)
 
 -- the events among what was said, in order
-abbrev pub events_in : List Said → List TwoWayEvent
+abbrev pub events_in : List DriverOutput → List TwoWayEvent
 events_in said = filter_map event_in said
 
 -- the phase of a stage: a round that is taken back runs too

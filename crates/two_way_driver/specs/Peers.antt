@@ -5,8 +5,8 @@ use Rattle.switch_session.specs.Channels.{ChannelState, first_channel, hello, is
 use Rattle.switch_session.specs.declared.Session.{Session}
 use Rattle.switch_session.specs.declared.Session.TheVariants.{Waiting, Open, Failed}
 use Rattle.two_way_driver.specs.PeerStates.{PeerState}
-use Rattle.two_way_driver.specs.declared.peers.Heard.{Heard}
-use Rattle.two_way_driver.specs.declared.peers.Heard.TheVariants.{Nothing, Opened, Answered, Replied, Broke}
+use Rattle.two_way_driver.specs.declared.peers.ByteOutcome.{ByteOutcome}
+use Rattle.two_way_driver.specs.declared.peers.ByteOutcome.TheVariants.{Nothing, Opened, Answered, Replied, Broke}
 
 -- a switch at the beginning
 abbrev pub first_peer : PeerState
@@ -17,13 +17,13 @@ abbrev pub opened_anew : Option ℕ → ChannelState
 opened_anew outstanding = record { session = Open; unread = []; sent = hello; outstanding = outstanding }
 
 -- the failure of a session, if it failed
-abbrev pub failure_in : Session → Heard
+abbrev pub failure_in : Session → ByteOutcome
 failure_in Waiting = Nothing
 failure_in Open = Nothing
 failure_in (Failed c) = Broke c
 
 -- what came of a byte to a channel with this session, outstanding barrier request and number of bytes sent
-unfoldable pub heard_of : Session → Option ℕ → ℕ → ChannelState → Heard
+unfoldable pub heard_of : Session → Option ℕ → ℕ → ChannelState → ByteOutcome
 heard_of session outstanding sent after =
     if is_some outstanding && is_none after.outstanding then Answered
     else if is_open after.session && not (is_open session) then Opened
@@ -31,7 +31,7 @@ heard_of session outstanding sent after =
     else if is_failed session then Nothing
     else failure_in after.session
 
-abbrev pub heard_by : ChannelState → ChannelState → Heard
+abbrev pub heard_by : ChannelState → ChannelState → ByteOutcome
 heard_by before after = heard_of before.session before.outstanding (length before.sent) after
 
 -- the channel that is kept behind a byte: once an echo request was replied to, the reply is forgotten

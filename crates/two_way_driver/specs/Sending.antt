@@ -17,17 +17,17 @@ use Rattle.two_way_driver.specs.Calls.{DriverView, start_fault, back_fault}
 use Rattle.two_way_driver.specs.Laws.{Call, Start, Back, Reopen, Feed}
 use Rattle.two_way_driver.specs.declared.Stage.{Stage}
 use Rattle.two_way_driver.specs.declared.Stage.TheVariants.{Settled, Onward, Undone}
-use Rattle.two_way_driver.specs.declared.Said.{Said}
-use Rattle.two_way_driver.specs.declared.Said.TheVariants.{Send, Failed as Fails, Log}
+use Rattle.two_way_driver.specs.declared.DriverOutput.{DriverOutput}
+use Rattle.two_way_driver.specs.declared.DriverOutput.TheVariants.{Send, Failed as Fails, Log}
 
 -- the message that is said to a switch, if one is
-abbrev pub text_to : SwitchId → Said → Option (List ℕ)
+abbrev pub text_to : SwitchId → DriverOutput → Option (List ℕ)
 text_to s (Send t text) = if t.0 == s.0 then Some text else None
 text_to s (Fails t cause) = None
 text_to s (Log e) = None
 
 -- the messages to a switch among what was said, in order
-abbrev pub texts_to : SwitchId → List Said → List (List ℕ)
+abbrev pub texts_to : SwitchId → List DriverOutput → List (List ℕ)
 texts_to s said = filter_map (text_to s) said
 
 -- the messages to a switch among those of a round, in order

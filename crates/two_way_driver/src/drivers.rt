@@ -8,7 +8,7 @@ ghost use Rattle.two_way_driver.specs.Inside.{view_of};
 use crate::faults::CallFault;
 use crate::legs::{Plan, first_not_open, next_round};
 use crate::talks::Talks;
-use crate::{Said, Session, Stage};
+use crate::{DriverOutput, Session, Stage};
 use net_base::{Memory, SwitchId};
 use std::alloc::Global;
 use std::marker::Model;
@@ -188,7 +188,7 @@ impl<'a> Driver<'a> {
     }
 
     /// What was said since it was forgotten, in order.
-    pub fn said(&self) -> &[Said]
+    pub fn said(&self) -> &[DriverOutput]
         ensures { result.now ≡ self.now.state.said }
     {
         &self.talks.said

@@ -30,7 +30,7 @@ pub enum Stage {
 
 /// An event of an update.
 #[derive(Clone, Copy, Debug, PartialEq, Eq)]
-pub enum Logged {
+pub enum DriverEvent {
     /// The next round begins.
     Start,
     /// The change of this number in the running round is made.
@@ -47,11 +47,11 @@ pub enum Logged {
 
 /// What a driver says to its caller.
 #[derive(Drop)]
-pub enum Said {
+pub enum DriverOutput {
     /// A message is to be sent to a switch.
     Send(SwitchId, Text),
     /// The session with a switch failed.
     Failed(SwitchId, Cause),
     /// An event came about.
-    Log(Logged),
+    Log(DriverEvent),
 }

@@ -14,7 +14,7 @@ pub(crate) const HELLO: [u8; 8] = [1, 0, 0, 8, 0, 0, 0, 0];
 
 /// What came of a byte from a switch.
 #[derive(Drop)]
-pub enum Heard {
+pub enum ByteOutcome {
     /// Nothing that is told further.
     Nothing,
     /// The session is open now.
@@ -58,13 +58,13 @@ fn open_channel(alloc: Global, outstanding: Option<u32>) -> Result<Channel, Memo
 }
 
 /// The failure of a session, if it failed.
-fn failure_in(session: Session) -> Heard
+fn failure_in(session: Session) -> ByteOutcome
     ensures { result ≡ failure_in session }
 {
     match session {
-        Session::Waiting => Heard::Nothing,
-        Session::Open => Heard::Nothing,
-        Session::Failed(cause) => Heard::Broke(cause),
+        Session::Waiting => ByteOutcome::Nothing,
+        Session::Open => ByteOutcome::Nothing,
+        Session::Failed(cause) => ByteOutcome::Broke(cause),
     }
 }
 
@@ -76,22 +76,22 @@ fn heard_since(
     outstanding: Option<u32>,
     sent: usize,
     after: &Channel,
-) -> Result<Heard, Memory>
+) -> Result<ByteOutcome, Memory>
     ensures { IfOk result (λ h. h ≡ heard_of session outstanding sent after.now.state) }
 {
     if outstanding.is_some() && after.outstanding().is_none() {
-        return Ok(Heard::Answered);
+        return Ok(ByteOutcome::Answered);
     }
     if after.is_open() && !matches!(session, Session::Open) {
-        return Ok(Heard::Opened);
+        return Ok(ByteOutcome::Opened);
     }
     let text = after.sent();
     if sent < text.len() {
         let reply = Vec::from_slice(alloc, &text[sent..])?;
-        return Ok(Heard::Replied(Text::make(reply)));
+        return Ok(ByteOutcome::Replied(Text::make(reply)));
     }
     if matches!(session, Session::Failed(_)) {
-        return Ok(Heard::Nothing);
+        return Ok(ByteOutcome::Nothing);
     }
     Ok(failure_in(after.session()))
 }
@@ -139,7 +139,7 @@ impl Peer {
 
     /// A byte comes.
     #[tactic(auto, unfolding(crate::specs::Peers::peer_after))]
-    pub(crate) fn hear(&mut self, alloc: Global, byte: u8) -> Result<Heard, Memory>
+    pub(crate) fn hear(&mut self, alloc: Global, byte: u8) -> Result<ByteOutcome, Memory>
         ensures ok { OnOk result (self.new ≡ peer_after byte self.old) }
         ensures heard { IfOk result
             (λ h. h ≡ heard_by self.old.channel (after_byte byte self.old.channel)) }

@@ -11,8 +11,8 @@ ghost use Rattle.two_way_driver.specs.Inside.{state_of, FitsNext, heard_on, fed_
 ghost use Rattle.net_base.specs.Switches.{most_switches};
 
 use crate::legs::Leg;
-use crate::peers::{HELLO, Heard, Peer};
-use crate::{Logged, Said, Stage};
+use crate::peers::{ByteOutcome, HELLO, Peer};
+use crate::{DriverEvent, DriverOutput, Stage};
 use net_base::{Memory, SwitchId};
 use std::alloc::Global;
 use topology::Net;
@@ -30,7 +30,7 @@ pub struct Talks {
     pub(crate) peers: Vec<Peer>,
     /// For each switch whether its changes in the running round are in force.
     pub(crate) in_force: Vec<bool>,
-    pub(crate) said: Vec<Said>,
+    pub(crate) said: Vec<DriverOutput>,
 }
 
 /// Whether no barrier request of the running round waits for its answer.
@@ -41,52 +41,64 @@ fn all_answered(peers: &[Peer]) -> bool
 }
 
 /// Says an event, if it came about.
-fn push_log(said: &mut Vec<Said>, wanted: bool, event: Logged) -> Result<(), Memory>
+fn push_log(said: &mut Vec<DriverOutput>, wanted: bool, event: DriverEvent) -> Result<(), Memory>
     ensures { OnOk result (said.new.items ≡ said.old.items ++ log_if wanted event) }
 {
     if wanted {
-        said.push(Said::Log(event))?;
+        said.push(DriverOutput::Log(event))?;
     }
     Ok(())
 }
 
 /// Adds the events of a switch's changes that are made, ascending.
-fn push_changes(said: &mut Vec<Said>, round: &[Change], switch: SwitchId) -> Result<(), Memory>
+fn push_changes(
+    said: &mut Vec<DriverOutput>,
+    round: &[Change],
+    switch: SwitchId,
+) -> Result<(), Memory>
     ensures { OnOk result (said.new.items ≡ said.old.items ++ change_notes switch 0 round.now) }
 {
     for number in 0..round.len() {
         let is_here = round[number].switch().0 == switch.0;
-        push_log(said, is_here, Logged::Change(number))?;
+        push_log(said, is_here, DriverEvent::Change(number))?;
     }
     Ok(())
 }
 
 /// Adds the events of a switch's changes that are taken back, descending.
-fn push_undone(said: &mut Vec<Said>, round: &[Change], switch: SwitchId) -> Result<(), Memory>
+fn push_undone(
+    said: &mut Vec<DriverOutput>,
+    round: &[Change],
+    switch: SwitchId,
+) -> Result<(), Memory>
     ensures { OnOk result (said.new.items ≡ said.old.items ++ undo_notes switch 0 round.now) }
 {
     let mut left = round.len();
     while left > 0 {
         left -= 1;
         let is_here = round[left].switch().0 == switch.0;
-        push_log(said, is_here, Logged::Undo(left))?;
+        push_log(said, is_here, DriverEvent::Undo(left))?;
     }
     Ok(())
 }
 
 /// Says a message, if it is wanted.
-fn push_if(said: &mut Vec<Said>, message: &Outgoing, wanted: bool) -> Result<(), Memory>
+fn push_if(said: &mut Vec<DriverOutput>, message: &Outgoing, wanted: bool) -> Result<(), Memory>
     ensures { OnOk result (said.new.items ≡ said.old.items ++ send_if wanted message.now) }
 {
     if wanted {
         let text = message.text.copy()?;
-        said.push(Said::Send(message.switch, text))?;
+        said.push(DriverOutput::Send(message.switch, text))?;
     }
     Ok(())
 }
 
 /// Says those of the messages that are to switches with open sessions.
-fn push_open(said: &mut Vec<Said>, messages: &[Outgoing], peers: &[Peer]) -> Result<(), Memory>
+fn push_open(
+    said: &mut Vec<DriverOutput>,
+    messages: &[Outgoing],
+    peers: &[Peer],
+) -> Result<(), Memory>
     requires { AllByRecursion (λ (m : Outgoing). m.switch.0 < length peers.now) messages.now }
     ensures { OnOk result
         (said.new.items ≡ said.old.items ++ sends (is_to_open peers.now) messages.now) }
@@ -98,7 +110,11 @@ fn push_open(said: &mut Vec<Said>, messages: &[Outgoing], peers: &[Peer]) -> Res
 }
 
 /// Says those of the messages that are to a switch.
-fn push_to(said: &mut Vec<Said>, messages: &[Outgoing], switch: SwitchId) -> Result<(), Memory>
+fn push_to(
+    said: &mut Vec<DriverOutput>,
+    messages: &[Outgoing],
+    switch: SwitchId,
+) -> Result<(), Memory>
     ensures { OnOk result
         (said.new.items ≡ said.old.items ++ sends (is_to switch) messages.now) }
 {
@@ -160,15 +176,15 @@ fn first_peers(alloc: Global, switches: u32) -> Result<Vec<Peer>, Memory>
 }
 
 /// HELLO to a switch.
-fn hello_to(alloc: Global, switch: SwitchId) -> Result<Said, Memory>
-    ensures { IfOk result (λ said. said ≡ Said.Send switch hello) }
+fn hello_to(alloc: Global, switch: SwitchId) -> Result<DriverOutput, Memory>
+    ensures { IfOk result (λ said. said ≡ DriverOutput.Send switch hello) }
 {
     let bytes = Vec::from_slice(alloc, &HELLO)?;
-    Ok(Said::Send(switch, Text::make(bytes)))
+    Ok(DriverOutput::Send(switch, Text::make(bytes)))
 }
 
 /// HELLO to each of so many switches.
-fn hello_to_all(alloc: Global, switches: u32) -> Result<Vec<Said>, Memory>
+fn hello_to_all(alloc: Global, switches: u32) -> Result<Vec<DriverOutput>, Memory>
     ensures { IfOk result (λ v. v.items ≡ first_words 0 switches) }
 {
     let mut said = Vec::new(alloc);
@@ -197,7 +213,7 @@ impl Talks {
     }
 
     /// Says one thing more.
-    fn say(&mut self, words: Said) -> Result<(), Memory>
+    fn say(&mut self, words: DriverOutput) -> Result<(), Memory>
         ensures { OnOk result (state_of self.new ≡ with_said (words ∷ []) (state_of self.old)) }
     {
         self.said.push(words)?;
@@ -234,11 +250,11 @@ impl Talks {
             Stage::Settled(_) => Ok(()),
             Stage::Onward(k) => {
                 self.stage = Stage::Settled(k + 1);
-                self.say(Said::Log(Logged::Settle))
+                self.say(DriverOutput::Log(DriverEvent::Settle))
             }
             Stage::Undone(k) => {
                 self.stage = Stage::Settled(k);
-                self.say(Said::Log(Logged::SettleBack))
+                self.say(DriverOutput::Log(DriverEvent::SettleBack))
             }
         }
     }
@@ -335,7 +351,7 @@ impl Talks {
     }
 
     /// This came of a byte from a switch.
-    fn take(&mut self, leg: &Leg, switch: SwitchId, heard: Heard) -> Result<(), Memory>
+    fn take(&mut self, leg: &Leg, switch: SwitchId, heard: ByteOutcome) -> Result<(), Memory>
         requires plan { AllByRecursion (IsPlanChange leg.now.net.now) leg.now.asked.now }
         requires peer { switch.0 < length self.old.peers.items }
         requires flag { switch.0 < length self.old.in_force.items }
@@ -344,11 +360,11 @@ impl Talks {
             (state_of self.new ≡ heard_on leg.now switch heard_state (state_of self.old)) }
     {
         match heard {
-            Heard::Nothing => Ok(()),
-            Heard::Opened => self.open(leg.net, leg.asked, switch),
-            Heard::Answered => self.answer(leg.round, switch),
-            Heard::Replied(text) => self.say(Said::Send(switch, text)),
-            Heard::Broke(cause) => self.say(Said::Failed(switch, cause)),
+            ByteOutcome::Nothing => Ok(()),
+            ByteOutcome::Opened => self.open(leg.net, leg.asked, switch),
+            ByteOutcome::Answered => self.answer(leg.round, switch),
+            ByteOutcome::Replied(text) => self.say(DriverOutput::Send(switch, text)),
+            ByteOutcome::Broke(cause) => self.say(DriverOutput::Failed(switch, cause)),
         }
     }
 
@@ -383,7 +399,7 @@ impl Talks {
         ensures { OnOk result
             (state_of self.new ≡ started_with net.now changes.now k (state_of self.old)) }
     {
-        self.say(Said::Log(Logged::Start))?;
+        self.say(DriverOutput::Log(DriverEvent::Start))?;
         self.flag(false)?;
         self.send_out(net, changes, Stage::Onward(k))?;
         self.settle_if_answered()
@@ -396,7 +412,7 @@ impl Talks {
         ensures { OnOk result
             (state_of self.new ≡ undone_with net.now changes.now k (state_of self.old)) }
     {
-        self.say(Said::Log(Logged::Back))?;
+        self.say(DriverOutput::Log(DriverEvent::Back))?;
         self.flag(true)?;
         self.turn(net, changes, k)
     }

@@ -8,7 +8,7 @@ use hex::encode;
 use net_base::SwitchId;
 use std::alloc::Global;
 use std::process::Abort;
-use two_way_driver::{CallFault, Cause, Driver, Logged, Said, Stage};
+use two_way_driver::{CallFault, Cause, Driver, DriverEvent, DriverOutput, Stage};
 
 /// What is done with a driver.
 #[derive(Clone, Copy)]
@@ -45,20 +45,20 @@ fn add_message(rt: &impl Abort, alloc: Global, text: &mut Vec<u8>, bytes: &[u8])
     add_hex(rt, alloc, text, &bytes[72..bytes.len()]);
 }
 
-fn add_event(rt: &impl Abort, text: &mut Vec<u8>, event: Logged) {
+fn add_event(rt: &impl Abort, text: &mut Vec<u8>, event: DriverEvent) {
     match event {
-        Logged::Start => add(rt, text, b"start"),
-        Logged::Change(number) => {
+        DriverEvent::Start => add(rt, text, b"start"),
+        DriverEvent::Change(number) => {
             add(rt, text, b"change ");
             add_digit(rt, text, number);
         }
-        Logged::Settle => add(rt, text, b"settle"),
-        Logged::Back => add(rt, text, b"back"),
-        Logged::Undo(number) => {
+        DriverEvent::Settle => add(rt, text, b"settle"),
+        DriverEvent::Back => add(rt, text, b"back"),
+        DriverEvent::Undo(number) => {
             add(rt, text, b"undo ");
             add_digit(rt, text, number);
         }
-        Logged::SettleBack => add(rt, text, b"settle back"),
+        DriverEvent::SettleBack => add(rt, text, b"settle back"),
     }
 }
 
@@ -73,19 +73,19 @@ fn cause_word(cause: Cause) -> &'static [u8] {
 }
 
 /// Adds a line for what was said.
-fn add_said(rt: &impl Abort, alloc: Global, text: &mut Vec<u8>, said: &Said) {
+fn add_said(rt: &impl Abort, alloc: Global, text: &mut Vec<u8>, said: &DriverOutput) {
     match said {
-        Said::Send(switch, message) => {
+        DriverOutput::Send(switch, message) => {
             add(rt, text, b"s");
             add_digit(rt, text, switch.0 as usize);
             add_message(rt, alloc, text, message.bytes());
         }
-        Said::Failed(switch, cause) => {
+        DriverOutput::Failed(switch, cause) => {
             add(rt, text, b"failed s");
             add_digit(rt, text, switch.0 as usize);
             add(rt, text, cause_word(*cause));
         }
-        Said::Log(event) => add_event(rt, text, *event),
+        DriverOutput::Log(event) => add_event(rt, text, *event),
     }
     add(rt, text, b"\n");
 }

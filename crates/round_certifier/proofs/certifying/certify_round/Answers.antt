@@ -10,7 +10,7 @@ use Rattle.round_judge.specs.Goals.{HasAtoms}
 use Rattle.certificates.specs.declared.OrderedPick.{OrderedPick}
 use Rattle.evidence_store.specs.State.{StoreState}
 use Rattle.evidence_store.specs.Stored.{IsStored}
-use Rattle.round_judge.specs.declared.judging.Found.{Found}
+use Rattle.round_judge.specs.declared.judging.FoundEvidence.{FoundEvidence}
 use Rattle.round_judge.proofs.EvidenceLaws.{begun_before}
 use Rattle.round_judge.specs.Judged.{AreFirstJudged, AreWithPicks}
 use Rattle.round_judge.specs.Visits.{HoldAfter}
@@ -76,7 +76,7 @@ put_picks-requires-clause-classes c =
     (subst (λ (ms : List MixedState). AreLoaded (rollout case.task) c.args.k ms) (sym c.mixes.ensures) loaded) c.args.so_far.now.store c.args.so_far.now.watch.came.items c.args.so_far.now.looked
     c.requires.so_far c.args.goal.now c.requires.goal c.in_ok-failing.field-0 c.judge.new.self.watch.came.items c.in_ok-failing.ensures.judged in
     let safe = subst (AreFirstJudged (target_for case.task) (rollout case.task) c.args.so_far.now.store.evidence c.args.k) c.in-Safe.is judged.0 in
-    subst (λ n. AllByRecursion (λ (f : Found). f.class < n) c.in-Safe.found.items) (sym (ap (λ (s : StoreState). s.classes) c.judge.ensures.store ∙ c.requires.so_far.classes)) safe.within
+    subst (λ n. AllByRecursion (λ (f : FoundEvidence). f.class < n) c.in-Safe.found.items) (sym (ap (λ (s : StoreState). s.classes) c.judge.ensures.store ∙ c.requires.so_far.classes)) safe.within
 
 pub put_picks-requires-clause-ascending : goal.put_picks-requires-clause-ascending
 put_picks-requires-clause-ascending c =

@@ -6,7 +6,7 @@ use Rattle.dest_classes.specs.Classes.{IsClass}
 use Rattle.dest_classes.specs.declared.Class.{Class}
 use Rattle.update_model.specs.Mixtures.{Rollout}
 use Rattle.mixed_walks.specs.Walks.{IsRoundOf}
-use Rattle.round_judge.specs.declared.judging.Found.{Found}
+use Rattle.round_judge.specs.declared.judging.FoundEvidence.{FoundEvidence}
 use Rattle.round_judge.specs.declared.judging.ClassVerdict.{ClassVerdict}
 use Rattle.round_judge.specs.Judged.{IsNextRound, IsJudged, IsNewlySafe}
 use Rattle.class_watch.specs.Walks.{HoldsWalks}
@@ -18,7 +18,7 @@ pub returns-in-Some-clause-judged : goal.returns-in-Some-clause-judged
 returns-in-Some-clause-judged c = λ u k class round is next before.
     let to = c.args.goal.now in
     let e = c.args.tried.now.store.now.evidence in
-    let found : Found = record { class = c.args.number; evidence = c.in-Some.evidence } in
+    let found : FoundEvidence = record { class = c.args.number; evidence = c.in-Some.evidence } in
     new_here to u e k c.args.number found refl (each_at (IsNewlySafe to u e k) c.args.before.now.items found before c.in-Some.ensures.some) class is
 
 pub returns-clause-judged : goal.returns-clause-judged

@@ -2,7 +2,7 @@ use Rattle.std.proofs.Common.{◌<◌, ap, ◌∙◌, sym, subst}
 use Rattle.std.specs.List.{AllByRecursion}
 use Rattle.evidence_store.specs.State.{StoreState}
 use Rattle.evidence_store.specs.Stored.{IsStored}
-use Rattle.round_judge.specs.declared.judging.Found.{Found}
+use Rattle.round_judge.specs.declared.judging.FoundEvidence.{FoundEvidence}
 use Rattle.round_judge.proofs.picking.put_picks.Goals as goal
 
 pub add_picks-requires-clause-behind : goal.add_picks-requires-clause-behind
@@ -11,7 +11,7 @@ add_picks-requires-clause-behind c =
 
 pub add_picks-requires-clause-classes : goal.add_picks-requires-clause-classes
 add_picks-requires-clause-classes c =
-    subst (λ (s : StoreState). AllByRecursion (λ (f : Found). f.class < s.classes) c.args.found.items) (sym c.in_ok-before.ensures) c.requires.classes
+    subst (λ (s : StoreState). AllByRecursion (λ (f : FoundEvidence). f.class < s.classes) c.args.found.items) (sym c.in_ok-before.ensures) c.requires.classes
 
 pub returns-clause-picks : goal.returns-clause-picks
 returns-clause-picks c = rw (c.put_back.ensures.value, ← c.in_ok-before.ensures) c.in_ok-add_picks.ensures.picks

@@ -1,7 +1,7 @@
 use Rattle.std.proofs.Common.{◌≡◌, ℕ, List, length, ap, ◌∙◌}
 use Rattle.topology.specs.Networks.{Network}
 use Rattle.two_way_driver.specs.Calls.{DriverView, silent_view}
-use Rattle.two_way_driver.specs.declared.Said.{Said}
+use Rattle.two_way_driver.specs.declared.DriverOutput.{DriverOutput}
 use Rattle.serve_lines.specs.Lines.{line_in}
 use Rattle.serve_lines.specs.Blocks.{block_text}
 use Rattle.serve_lines.specs.declared.blocks.Outcome.{Outcome}
@@ -17,7 +17,7 @@ returns-clause-block c =
     c.in_ok-block.ensures
     ∙ ap (λ (n : Network). block_text n c.args.place.now.rounds c.said.result.now c.in_ok-outcome.outcome) c.requires.net
     ∙ ap (λ (k : ℕ). block_text d.net k c.said.result.now c.in_ok-outcome.outcome) c.requires.rounds
-    ∙ ap (λ (t : List Said). block_text d.net (length d.rounds) t c.in_ok-outcome.outcome) said
+    ∙ ap (λ (t : List DriverOutput). block_text d.net (length d.rounds) t c.in_ok-outcome.outcome) said
     ∙ ap (λ (o : Outcome). block_text d.net (length d.rounds) next.state.said o) c.in_ok-outcome.ensures.outcome
 
 pub returns-clause-behind : goal.returns-clause-behind

@@ -4,7 +4,7 @@ use Rattle.topology.specs.Networks.{Network}
 use Rattle.path_walk.specs.UserConfigs.{IsUserConfig}
 use Rattle.dest_classes.specs.Classes.{class_count}
 use Rattle.round_tables.specs.Trials.{IsBetweenTrials}
-use Rattle.round_judge.specs.declared.judging.Found.{Found as FoundOf}
+use Rattle.round_judge.specs.declared.judging.FoundEvidence.{FoundEvidence as FoundOf}
 use Rattle.table_difference.specs.Targets.{Target}
 use Rattle.round_planner.specs.Search.{update_by}
 use Rattle.round_judge.specs.Judged.{AreSafeBelow}
