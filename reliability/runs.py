@@ -47,7 +47,7 @@ def update(name, *more):
 
 
 def example_commands():
-    """Each command over the example files, as lists of words."""
+    """Each command over the example files, as lists of words, but `serve`, which serve.py is about."""
     commands = []
     for name in ("square", "detour"):
         topology, plan = f"{name}/topology.json", f"{name}/plan.json"
@@ -70,6 +70,9 @@ def example_commands():
         ["explain", *update("square", "plan-at-once.json")],
         ["explain", *update("detour", "plan.json")],
         ["replay", "square/topology.json", "square/old.json", "square/plan.json", "square/schedule"],
+        ["tables", "square/topology.json", "square/old.json", "square/plan.json", "square/schedule"],
+        ["paths", "square/topology.json", "square/new.json", "square/policy.json"],
+        ["trace", "square/topology.json", "square/new.json", "s1:1", "untagged", "10.0.0.1"],
         ["import", "square/topology.json", "square/replies-s1"],
         ["drive", *update("square", "plan.json", "input")],
         ["sample", "4"],
