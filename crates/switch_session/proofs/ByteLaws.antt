@@ -287,7 +287,7 @@ took_byte b ch going = subst (Took (b ∷ []) ch) (sym (reading_byte b ch going)
 
 -- nothing came of bytes to a failed session
 took_nothing : (bytes : List ℕ) (ch : ChannelState) → is_failed ch.session ≡ true → Took bytes ch ch
-took_nothing bytes ch failed = took_none bytes ch ch refl (λ going. absurd (let f : true ≡ false = sym after_failure ∙ going in cc)) (inl refl)
+took_nothing bytes ch failed = took_none bytes ch ch refl (λ going. absurd (let f : true ≡ false = sym failed ∙ going in cc)) (inl refl)
 
 took_bytes : (bytes : List ℕ) (ch : ChannelState) → Took bytes ch (after_bytes bytes ch)
 took_bytes [] ch = took_none [] ch ch refl (λ e. append-nil ch.unread) (inl refl)
