@@ -1,5 +1,4 @@
 pub mod KeyLaws
-pub mod MarkLaws
 pub mod ListLaws
 pub mod NumberLaws
 pub mod StoredLaws

@@ -1,15 +1,18 @@
 -- Lists in which each member stands once, with their marks.
-use Rattle.std.proofs.Common.{◌≡◌, ◌↔◌, ◌⊎◌, ℕ, zero, suc, ◌<◌, ◌≤◌, Bool, true, false, List, [], ◌∷◌, ◌++◌, map, length, replicate, get_or, set, refl, sym, ◌∙◌, subst, ap, inl, inr, arith, get_or-set_same, get_or-set_other}
+use Rattle.std.proofs.Common.{◌≡◌, ◌≢◌, ◌↔◌, ◌⊎◌, ℕ, zero, suc, ◌<◌, ◌≤◌, Bool, true, false, IsTrue, List, [], ◌∷◌, ◌++◌, map, length, replicate, get_or, set, refl, sym, ◌∙◌, subst, ap, inl, inr, arith, get_or-set_same, get_or-set_other}
 use Rattle.std.proofs.lemmas.Bool.{false≢true, cases_eq, cases_lt}
-use Rattle.std.proofs.lemmas.List.{length-set, get_or_default, get_or_past, get_or-replicate, length-replicate}
+use Rattle.std.proofs.lemmas.List.{length-map, length-set, get_or_default, get_or_past, get_or-replicate, length-replicate}
 use Rattle.net_base.specs.Members.{IsIn, IsDistinct}
-use Rattle.net_base.proofs.MemberLaws.{in_append_left, in_append_right, in_append_cases, in_map, in_from_map, map-push}
+use Rattle.net_base.specs.Switches.{has, most_switches}
+use Rattle.net_base.proofs.MemberLaws.{in_append_left, in_append_right, in_append_cases, in_from_map, map-push, each_append}
 use Rattle.net_base.proofs.ListLaws.{no_longer}
 use Rattle.net_base.proofs.NameLaws.{same_switch}
 use Rattle.net_base.proofs.ItemLaws.{distinct_push}
+use Rattle.net_base.proofs.SetLaws.{set_none, set_more}
+use Rattle.path_walk.proofs.StayLaws.{few_switches}
 use Rattle.net_base.specs.declared.ids.SwitchId.{SwitchId}
 use Rattle.acyclic_numbering.specs.declared.Edge.{Edge}
-use Rattle.mixed_walks.specs.Marked.{IsMarked, IsNear, edge_number}
+use Rattle.mixed_walks.specs.Marked.{IsMarked, IsSwitchList, IsNear, edge_number}
 
 -- the numbers below a number
 abbrev upto : ℕ → List ℕ
@@ -27,10 +30,6 @@ in_upto m (suc n) lt = elim (cases_eq m n) [ inl e ↦ inl e | inr ne ↦ inr (i
 -- distinct numbers below a number are no more than it
 few_numbers : (n : ℕ) (xs : List ℕ) → IsDistinct xs → ((m : ℕ) → IsIn m xs → m < n) → length xs ≤ n
 few_numbers n xs once below = let few = no_longer xs (upto n) once (λ m i. in_upto m n (below m i)) in let e = length-upto n in omega arith
-
-pub length-map_of : {A B : Type 0} (f : A → B) (xs : List A) → length (map f xs) ≡ length xs
-length-map_of f [] = refl
-length-map_of f (x ∷ xs) = ap suc (length-map_of f xs)
 
 -- members of a list with one more
 pub in_push : {A : Type 0} (xs : List A) (x y : A) → IsIn y (xs ++ x ∷ []) ↔ (IsIn y xs ⊎ (y ≡ x))
@@ -75,17 +74,11 @@ module _ {A : Type 0} (number : A → ℕ) (bound : ℕ) where
               absurd (false≢true (sym past ∙ (is.marked n).0 i)))
         ]
 
-    pub member_below : (x : A) → IsIn x list → number x < bound
-    member_below x i = below (number x) (in_map number x list i)
-
     -- the mark says whether the member stands there, where no other member has its number
     pub marked_member : (x : A) → ((y : A) → IsIn y list → number x ≡ number y → x ≡ y) → get_or marks (number x) false ≡ true → IsIn x list
     marked_member x told t =
         let (y, i, e) = in_from_map number (number x) list ((is.marked (number x)).1 t) in
         subst (λ z. IsIn z list) (sym (told y i e)) i
-
-    pub member_marked : (x : A) → IsIn x list → get_or marks (number x) false ≡ true
-    member_marked x i = (is.marked (number x)).0 (in_map number x list i)
 
     module _ (x : A) (near : number x < bound) (unmarked : get_or marks (number x) false ≡ false) where
       absent : ¬ IsIn (number x) (map number list)
@@ -95,7 +88,7 @@ module _ {A : Type 0} (number : A → ℕ) (bound : ℕ) where
       pub room_for : length list < capacity
       room_for =
           let few = few_numbers bound (number x ∷ map number list) (absent, is.once) (λ m i. elim i [ inl e ↦ subst (λ n. n < bound) (sym e) near | inr j ↦ below m j ]) in
-          let same = length-map_of number list in
+          let same = length-map list number in
           let room = is.room in
           omega arith
 
@@ -158,6 +151,27 @@ module _ {A : Type 0} (number : A → ℕ) where
               ],
             ))
       ]
+
+-- no switches
+pub switches_none : (capacity set : ℕ) → most_switches ≤ capacity → ((s : SwitchId) → has set s ≡ false) → IsSwitchList [] capacity set
+switches_none capacity set room none = record { room = room; once = tt; near = tt; members = set_none set none }
+
+module _ (list : List SwitchId) (capacity set : ℕ) (is : IsSwitchList list capacity set) (s : SwitchId) (near : s.0 < most_switches) (absent : has set s ≡ false) where
+  out : ¬ IsIn s list
+  out i = false≢true (sym absent ∙ (is.members s).1 i)
+
+  -- there is room for one more
+  pub switch_fits : length list < capacity
+  switch_fits = let few = few_switches most_switches (s ∷ list) (out, is.once) (near, is.near) in let room = is.room in omega arith
+
+  -- the list with the switch put
+  pub switches_more : (more new : ℕ) → capacity ≤ more → IsTrue (has new s) → ((t : SwitchId) → t.0 ≢ s.0 → has new t ≡ has set t) → IsSwitchList (list ++ s ∷ []) more new
+  switches_more more new room there others = record {
+    room = (let r = is.room in omega arith);
+    once = distinct_push list s is.once out;
+    near = each_append (λ t. t.0 < most_switches) list (s ∷ []) is.near (near, tt);
+    members = set_more set new list s there others is.members;
+  }
 
 abbrev made : SwitchId → SwitchId → Edge
 made s t = record { from = s; to = t }

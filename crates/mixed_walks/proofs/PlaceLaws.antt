@@ -32,7 +32,7 @@ use Rattle.update_model.specs.declared.Change.{Change}
 use Rattle.update_model.proofs.HeldLaws.{each_held, EachRuleOf}
 use Rattle.certificates.specs.Certified.{KeepsVlan}
 use Rattle.mixed_walks.specs.Walks.{KeepVlansUpTo, TablesKeepVlans, IsAtPort}
-use Rattle.mixed_walks.proofs.MarkedLaws.{length-map_of}
+use Rattle.std.proofs.lemmas.List.{length-map}
 
 -- ---- the rounds up to one
 
@@ -159,7 +159,7 @@ pub few_places : (net : Network) (entry : Place) → IsNetwork net → length (a
 few_places net entry is =
     let all = few_in_all (length net.names) 64 (used_ports net) is.few_ports (each_weaker (IsWithin net) (λ (x : Stop). x.switch.0 < length net.names) (λ x p. p.0) (used_ports net) is.ports) in
     let parts = length-append net.hosts (ends_of net.links) in
-    let same = length-map_of (place_at entry.vlan) (ends_of net.links) in
+    let same = length-map (ends_of net.links) (place_at entry.vlan) in
     let few = is.few in
     omega arith
 
@@ -185,7 +185,7 @@ port_in net vlan p is =
 pub few_ports : (net : Network) (vlan : Vlan) → IsNetwork net → length (port_places net vlan) ≤ 8192
 few_ports net vlan is =
     let all = few_in_all (length net.names) 64 (used_ports net) is.few_ports (each_weaker (IsWithin net) (λ (x : Stop). x.switch.0 < length net.names) (λ x p. p.0) (used_ports net) is.ports) in
-    let same = length-map_of (place_at vlan) (used_ports net) in
+    let same = length-map (used_ports net) (place_at vlan) in
     let few = is.few in
     omega arith
 

@@ -1,11 +1,12 @@
--- Lists in which each member stands once, with a mark for each that may stand there.
-use Rattle.std.specs.Prelude.{◌≡◌, ◌↔◌, ℕ, ◌+◌, ◌*◌, ◌%◌, ◌<◌, ◌≤◌, Bool, true, false, List, length, map, slice_index_or}
+-- Lists in which each member stands once, with a set or with a mark for each that may stand there.
+use Rattle.std.specs.Prelude.{◌≡◌, ◌↔◌, ℕ, ◌+◌, ◌*◌, ◌%◌, ◌<◌, ◌≤◌, Bool, true, false, IsTrue, List, length, map, slice_index_or}
+use Rattle.std.specs.List.{AllByRecursion}
 use Rattle.net_base.specs.Members.{IsIn, IsDistinct}
+use Rattle.net_base.specs.Switches.{has, most_switches}
 use Rattle.net_base.specs.declared.ids.SwitchId.{SwitchId}
 use Rattle.net_base.specs.declared.ids.Place.{Place}
 use Rattle.acyclic_numbering.specs.declared.Edge.{Edge}
 use Rattle.mixed_walks.specs.Walks.{switches_of}
-use Rattle.net_base.specs.Switches.{most_switches}
 
 -- each member has a number of its own below the bound, the mark of a number says whether it stands there, and there is room for all
 pub record IsMarked {A : Type 0} (number : A → ℕ) (bound : ℕ) (list : List A) (capacity : ℕ) (marks : List Bool) : Type 0 where
@@ -14,9 +15,12 @@ pub record IsMarked {A : Type 0} (number : A → ℕ) (bound : ℕ) (list : List
   pub once : IsDistinct (map number list)
   pub marked : (n : ℕ) → IsIn n (map number list) ↔ (slice_index_or marks n false ≡ true)
 
--- the number of a switch
-abbrev pub switch_number : SwitchId → ℕ
-switch_number s = s.0
+-- each switch stands once, the set has just these, and there is room for all that a network may have
+pub record IsSwitchList (list : List SwitchId) (capacity set : ℕ) : Type 0 where
+  pub room : most_switches ≤ capacity
+  pub once : IsDistinct list
+  pub near : AllByRecursion (λ s. s.0 < most_switches) list
+  pub members : (s : SwitchId) → IsTrue (has set s) ↔ IsIn s list
 
 -- the number of a step between two of 128 switches
 abbrev pub edge_number : Edge → ℕ

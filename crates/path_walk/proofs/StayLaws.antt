@@ -1,11 +1,13 @@
 -- Hops stay within the network, and distinct switches are no more than there are.
-use Rattle.std.proofs.Common.{◌≡◌, ℕ, zero, suc, ◌<◌, ◌≤◌, true, false, cond, not, List, [], ◌∷◌, length, refl, sym, ◌∙◌, subst, ap, inl, inr, arith}
-use Rattle.std.specs.Prelude.{◌==◌, filter, flat_map}
+use Rattle.std.proofs.Common.{◌≡◌, ℕ, zero, suc, ◌<◌, ◌≤◌, true, false, cond, List, [], ◌∷◌, length, refl, subst, ap, inl, inr, arith}
+use Rattle.std.specs.Prelude.{◌==◌, flat_map}
 use Rattle.std.specs.List.{AllByRecursion, list_any}
-use Rattle.std.proofs.lemmas.Bool.{eqb-true, eq-eqb, ne_eqb, cond_both, cases_eq}
+use Rattle.std.proofs.lemmas.Bool.{cases_eq}
 use Rattle.net_base.specs.Members.{IsIn, IsDistinct}
 use Rattle.net_base.specs.Places.{stop_of}
-use Rattle.net_base.proofs.MemberLaws.{in_from_filter, each_first, each_last, each_at}
+use Rattle.net_base.proofs.ListLaws.{no_longer}
+use Rattle.net_base.proofs.MemberLaws.{each_first, each_last, each_at}
+use Rattle.net_base.proofs.NameLaws.{same_switch}
 use Rattle.net_base.specs.declared.ids.SwitchId.{SwitchId}
 use Rattle.net_base.specs.declared.ids.Port.{Port}
 use Rattle.net_base.specs.declared.ids.Stop.{Stop}
@@ -23,47 +25,24 @@ use Rattle.path_walk.specs.Outcomes.{header_at, rewritten_vlan, sent_outcome, ac
 use Rattle.path_walk.specs.Paths.{outcome_in}
 use Rattle.path_walk.specs.declared.Outcome.TheVariants.{Discard, Leave, Go}
 
--- the switches of a list but one
-abbrev others : ℕ → List SwitchId → List SwitchId
-others n xs = filter (λ s. not (s.0 == n)) xs
+-- the switches below a number
+abbrev switches_below : ℕ → List SwitchId
+switches_below zero = []
+switches_below (suc n) = record { 0 = n } ∷ switches_below n
 
-none_left_out : (n : ℕ) (x : SwitchId) (xs : List SwitchId) → x.0 ≡ n → ¬ IsIn x xs → length (others n xs) ≡ length xs
-none_left_out n x [] is absent = refl
-none_left_out n x (y ∷ xs) is absent =
-    elim (cases_eq y.0 n) [
-      | inl e ↦ absurd (absent (inl (ap (λ (m : ℕ). let s : SwitchId = record { 0 = m } in s) (is ∙ sym e))))
-      | inr ne ↦ rw (ne_eqb y.0 n ne) (ap suc (none_left_out n x xs is (λ i. absent (inr i))))
-    ]
+length-switches_below : (n : ℕ) → length (switches_below n) ≡ n
+length-switches_below zero = refl
+length-switches_below (suc n) = ap suc (length-switches_below n)
 
-one_left_out : (n : ℕ) (xs : List SwitchId) → IsDistinct xs → length xs ≤ suc (length (others n xs))
-one_left_out n [] distinct = omega arith
-one_left_out n (x ∷ xs) distinct =
-    elim (x.0 == n) as (λ b. x.0 == n ≡ b → suc (length xs) ≤ suc (length (cond (not b) (x ∷ others n xs) (others n xs)))) [
-      | true ↦ λ e. let same = none_left_out n x xs (eqb-true x.0 n e) distinct.0 in omega arith
-      | false ↦ λ e. let rest = one_left_out n xs distinct.1 in omega arith
-    ] refl
-
-others_distinct : (n : ℕ) (xs : List SwitchId) → IsDistinct xs → IsDistinct (others n xs)
-others_distinct n [] distinct = tt
-others_distinct n (x ∷ xs) distinct =
-    cond_both (not (x.0 == n)) (x ∷ others n xs) (others n xs) IsDistinct
-    (λ _. (λ i. distinct.0 (in_from_filter (λ s. not (s.0 == n)) x xs i).0, others_distinct n xs distinct.1)) (λ _. others_distinct n xs distinct.1)
-
-others_below : (n : ℕ) (xs : List SwitchId) → AllByRecursion (λ s. s.0 < suc n) xs → AllByRecursion (λ s. s.0 < n) (others n xs)
-others_below n [] below = tt
-others_below n (x ∷ xs) below =
-    elim (cases_eq x.0 n) [
-      | inl e ↦ rw (eq-eqb x.0 n e) (others_below n xs below.1)
-      | inr ne ↦ rw (ne_eqb x.0 n ne) (let h = below.0 in omega arith, others_below n xs below.1)
-    ]
+in_switches_below : (s : SwitchId) (n : ℕ) → s.0 < n → IsIn s (switches_below n)
+in_switches_below s zero lt = absurd (omega arith)
+in_switches_below s (suc n) lt = elim (cases_eq s.0 n) [ inl e ↦ inl (same_switch s (record { 0 = n }) e) | inr ne ↦ inr (in_switches_below s n (omega arith)) ]
 
 -- distinct switches below a number are at most so many
 pub few_switches : (n : ℕ) (xs : List SwitchId) → IsDistinct xs → AllByRecursion (λ s. s.0 < n) xs → length xs ≤ n
-few_switches zero [] distinct below = omega arith
-few_switches zero (x ∷ xs) distinct below = absurd (let h = below.0 in omega arith)
-few_switches (suc n) xs distinct below =
-    let rest = few_switches n (others n xs) (others_distinct n xs distinct) (others_below n xs below) in
-    let one = one_left_out n xs distinct in
+few_switches n xs distinct below =
+    let few = no_longer xs (switches_below n) distinct (λ s i. in_switches_below s n (each_at (λ (t : SwitchId). t.0 < n) xs s below i)) in
+    let count = length-switches_below n in
     omega arith
 
 -- a stop of the network

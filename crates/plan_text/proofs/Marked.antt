@@ -1,43 +1,27 @@
 -- The numbers of the marked places, one place after the other.
-use Rattle.std.proofs.Common.{◌≡◌, ℕ, zero, suc, ◌+◌, ◌<◌, ◌≤◌, Bool, true, false, List, [], ◌∷◌, ◌++◌, length, take, get_or, refl, sym, ap, subst, ◌∙◌, arith, add-one, add-zero}
+use Rattle.std.proofs.Common.{◌≡◌, ℕ, ◌+◌, ◌<◌, ◌≤◌, Bool, true, false, List, [], ◌∷◌, ◌++◌, length, take, get_or, sym, ap, subst, ◌∙◌}
 use Rattle.std.proofs.lemmas.Grind.{flat_map-append}
 use Rattle.std.proofs.lemmas.List.{take_all}
 use Rattle.json.specs.Token.{begin_array, end_array}
 use Rattle.json.specs.Written.{Written}
 use Rattle.config_files.specs.RuleTrees.{whole_tree}
 use Rattle.waypoint_evidence.specs.Befores.{marked_from}
+use Rattle.waypoint_evidence.proofs.MarkLaws.{marked_on, marked_off}
 use Rattle.plan_text.specs.PlanText.{numbers_tree}
 use Rattle.plan_text.specs.Tokens.{tokens_of, all_tokens, Adds}
 use Rattle.plan_text.proofs.Adding.{and_more, list_added}
-
-one_more : (first i : ℕ) (marks : List Bool) → i < length marks → get_or marks i false ≡ true → marked_from first (take (suc i) marks) ≡ marked_from first (take i marks) ++ (first + i) ∷ []
-one_more first i [] lt on = absurd (omega arith)
-one_more first zero (true ∷ marks) lt on = rw add-zero refl
-one_more first zero (false ∷ marks) lt on = absurd cc
-one_more first (suc i) (true ∷ marks) lt on = ap (λ l. first ∷ l) (one_more (first + 1) i marks (omega arith) on ∙ ap (λ n. marked_from (first + 1) (take i marks) ++ n ∷ []) (omega arith))
-one_more first (suc i) (false ∷ marks) lt on = one_more (first + 1) i marks (omega arith) on ∙ ap (λ n. marked_from (first + 1) (take i marks) ++ n ∷ []) (omega arith)
-
-none_more : (first i : ℕ) (marks : List Bool) → i < length marks → get_or marks i false ≡ false → marked_from first (take (suc i) marks) ≡ marked_from first (take i marks)
-none_more first i [] lt off = absurd (omega arith)
-none_more first zero (true ∷ marks) lt off = absurd cc
-none_more first zero (false ∷ marks) lt off = refl
-none_more first (suc i) (true ∷ marks) lt off = ap (λ l. first ∷ l) (none_more (first + 1) i marks (omega arith) off)
-none_more first (suc i) (false ∷ marks) lt off = none_more (first + 1) i marks (omega arith) off
 
 pub marked_added : (i : ℕ) (marks : List Bool) (a b c : Written) → i < length marks → get_or marks i false ≡ true → Adds a b (all_tokens whole_tree (marked_from 0 (take i marks)))
     → Adds b c (tokens_of (whole_tree i)) → Adds a c (all_tokens whole_tree (marked_from 0 (take (i + 1) marks)))
 marked_added i marks a b c lt on before more =
     let before_it : List ℕ = marked_from 0 (take i marks) in
-    let from_zero : 0 + i ≡ i = omega arith in
-    let number : marked_from 0 (take (i + 1) marks) ≡ before_it ++ i ∷ [] = rw add-one (one_more 0 i marks lt on ∙ ap (λ (n : ℕ). before_it ++ n ∷ []) from_zero) in
     let whole : all_tokens whole_tree (before_it ++ i ∷ []) ≡ all_tokens whole_tree before_it ++ tokens_of (whole_tree i) = flat_map-append (λ n. tokens_of (whole_tree n)) before_it (i ∷ []) in
-    subst (Adds a c) (sym (ap (all_tokens whole_tree) number ∙ whole)) (and_more before more)
+    subst (Adds a c) (sym (ap (all_tokens whole_tree) (marked_on marks i lt on) ∙ whole)) (and_more before more)
 
 pub unmarked_added : (i : ℕ) (marks : List Bool) (a b : Written) → i < length marks → get_or marks i false ≡ false → Adds a b (all_tokens whole_tree (marked_from 0 (take i marks)))
     → Adds a b (all_tokens whole_tree (marked_from 0 (take (i + 1) marks)))
 unmarked_added i marks a b lt off before =
-    let same : marked_from 0 (take (i + 1) marks) ≡ marked_from 0 (take i marks) = rw add-one (none_more 0 i marks lt off) in
-    subst (Adds a b) (sym (ap (all_tokens whole_tree) same)) before
+    subst (Adds a b) (sym (ap (all_tokens whole_tree) (marked_off marks i lt off))) before
 
 -- at the end of the marks
 pub marks_added : (marks : List Bool) (i : ℕ) (a b c d : Written) → length marks ≤ i → Adds a b (begin_array ∷ []) → Adds b c (all_tokens whole_tree (marked_from 0 (take i marks))) → Adds c d (end_array ∷ [])

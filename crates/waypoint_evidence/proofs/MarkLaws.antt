@@ -1,5 +1,5 @@
 -- A set of switches as 128 marks.
-use Rattle.std.proofs.Common.{◌≡◌, ◌≢◌, ◌==◌, ◌<◌, ℕ, ◌+◌, Bool, true, false, IsTrue, List, [], length, length-set, get_or, set, replicate, refl, sym, ap, ◌∙◌, subst, inl, inr, arith}
+use Rattle.std.proofs.Common.{◌≡◌, ◌≢◌, ◌==◌, ◌<◌, ℕ, zero, suc, ◌+◌, Bool, true, false, IsTrue, List, [], ◌∷◌, ◌++◌, length, take, length-set, get_or, set, replicate, refl, sym, ap, ◌∙◌, subst, inl, inr, arith, add-zero, add-one}
 use Rattle.std.proofs.lemmas.Bool.{cases_eq}
 use Rattle.std.proofs.lemmas.List.{ext_get_or, get_or-set_same, get_or-set_other, get_or-replicate}
 use Rattle.std.proofs.lemmas.List.FromFn.{length-map-range_with_len, get_or-map-range_with_len}
@@ -44,3 +44,24 @@ list_more bits n marks less len so_far k within = elim (cases_eq k n) [
   | inl e ↦ subst (λ m. get_or (set marks n (bit_at bits n == 1)) m false ≡ (bit_at bits m == 1)) (sym e) (get_or-set_same marks n (bit_at bits n == 1) false (subst (λ l. n < l) (sym len) less))
   | inr ne ↦ get_or-set_other marks n k (bit_at bits n == 1) false ne ∙ so_far k (omega arith)
 ]
+
+on_from : (first i : ℕ) (marks : List Bool) → i < length marks → get_or marks i false ≡ true → marked_from first (take (suc i) marks) ≡ marked_from first (take i marks) ++ (first + i) ∷ []
+on_from first i [] lt on = absurd (omega arith)
+on_from first zero (true ∷ marks) lt on = rw add-zero refl
+on_from first zero (false ∷ marks) lt on = absurd cc
+on_from first (suc i) (true ∷ marks) lt on = ap (λ l. first ∷ l) (on_from (first + 1) i marks (omega arith) on ∙ ap (λ n. marked_from (first + 1) (take i marks) ++ n ∷ []) (omega arith))
+on_from first (suc i) (false ∷ marks) lt on = on_from (first + 1) i marks (omega arith) on ∙ ap (λ n. marked_from (first + 1) (take i marks) ++ n ∷ []) (omega arith)
+
+off_from : (first i : ℕ) (marks : List Bool) → i < length marks → get_or marks i false ≡ false → marked_from first (take (suc i) marks) ≡ marked_from first (take i marks)
+off_from first i [] lt off = absurd (omega arith)
+off_from first zero (true ∷ marks) lt off = absurd cc
+off_from first zero (false ∷ marks) lt off = refl
+off_from first (suc i) (true ∷ marks) lt off = ap (λ l. first ∷ l) (off_from (first + 1) i marks (omega arith) off)
+off_from first (suc i) (false ∷ marks) lt off = off_from (first + 1) i marks (omega arith) off
+
+-- the numbers up to a mark that is on, and one that is off
+pub marked_on : (marks : List Bool) (i : ℕ) → i < length marks → get_or marks i false ≡ true → marked_from 0 (take (i + 1) marks) ≡ marked_from 0 (take i marks) ++ i ∷ []
+marked_on marks i within on = let from_zero : 0 + i ≡ i = omega arith in rw add-one (on_from 0 i marks within on ∙ ap (λ (n : ℕ). marked_from 0 (take i marks) ++ n ∷ []) from_zero)
+
+pub marked_off : (marks : List Bool) (i : ℕ) → i < length marks → get_or marks i false ≡ false → marked_from 0 (take (i + 1) marks) ≡ marked_from 0 (take i marks)
+marked_off marks i within off = rw add-one (off_from 0 i marks within off)

@@ -1,5 +1,5 @@
 use Rattle.std.proofs.Common.{ℕ, List, [], ◌∷◌, ◌++◌, Vec, Global, sym, ap, ◌∙◌}
-use Rattle.evidence_store.proofs.MarkLaws.{marked_on, marked_off}
+use Rattle.waypoint_evidence.proofs.MarkLaws.{marked_on, marked_off}
 use Rattle.evidence_store.proofs.keys.marked.Goals as goal
 use Rattle.evidence_store.proofs.keys.marked.Goals.{then-is_member+in_ok-push, else-is_member}
 
