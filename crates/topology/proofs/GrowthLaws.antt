@@ -160,8 +160,8 @@ module _ (net : Network) (is : IsNetwork net) where
   ports_kept = record { once = is.ports_once; ports = is.ports; few = is.few_ports }
 
   -- with these links and host ports
-  joined : (links : List Link) (hosts : List Stop) → ArePorts (length net.names) (hosts ++ ends_of links) → IsNetwork (record net { links = links; hosts = hosts })
-  joined links hosts all = record {
+  ends_kept : (links : List Link) (hosts : List Stop) → ArePorts (length net.names) (hosts ++ ends_of links) → IsNetwork (record net { links = links; hosts = hosts })
+  ends_kept links hosts all = record {
     same_count = is.same_count;
     few = is.few;
     names = is.names;
@@ -177,9 +177,9 @@ module _ (net : Network) (is : IsNetwork net) where
   }
 
   -- with these VLANs and this range of tags
-  declared : (vlans : List Vlan) (tags : Option TagRange) → IsDistinct vlans → AllByRecursion IsVlan vlans → length vlans ≤ 64
+  vlans_kept : (vlans : List Vlan) (tags : Option TagRange) → IsDistinct vlans → AllByRecursion IsVlan vlans → length vlans ≤ 64
       → IfSome tags (λ t. IsVlanId t.first × IsVlanId t.last × (t.first ≤ t.last)) → IsNetwork (record net { vlans = vlans; tags = tags })
-  declared vlans tags once each few range = record {
+  vlans_kept vlans tags once each few range = record {
     same_count = is.same_count;
     few = is.few;
     names = is.names;
@@ -199,19 +199,19 @@ module _ (net : Network) (is : IsNetwork net) where
   link_kept a b a_port b_port a_free b_free a_room b_room =
       let n = length net.names in
       let both = push_ports n (used_ports net ++ a ∷ []) b (push_ports n (used_ports net) a ports_kept a_free a_room a_port) b_free b_room b_port in
-      joined (with_link net a b).links net.hosts (subst (λ (ys : List Stop). ArePorts n ys) (sym (used_link net a b)) both)
+      ends_kept (with_link net a b).links net.hosts (subst (λ (ys : List Stop). ArePorts n ys) (sym (used_link net a b)) both)
 
   pub host_kept : (stop : Stop) → IsPort net stop → list_any (stop_eq stop) (used_ports net) ≡ false → count_by (is_on stop.switch) (used_ports net) < 64 → IsNetwork (with_host net stop)
-  host_kept stop port free room = joined net.links (net.hosts ++ stop ∷ []) (insert_ports (length net.names) net.hosts (ends_of net.links) stop ports_kept free room port)
+  host_kept stop port free room = ends_kept net.links (net.hosts ++ stop ∷ []) (insert_ports (length net.names) net.hosts (ends_of net.links) stop ports_kept free room port)
 
   pub vlan_kept : (v : Vlan) → length net.vlans < 64 → IsVlan v → list_any (vlan_eq v) net.vlans ≡ false → IsNetwork (with_vlan net v)
   vlan_kept v room form new =
       let more = length_push net.vlans v in
-      declared (net.vlans ++ v ∷ []) net.tags (distinct_push net.vlans v is.vlans_once (λ i. false≢true (sym new ∙ (found vlan_eq vlan_eq-true vlan_eq-refl v net.vlans).1 i)))
+      vlans_kept (net.vlans ++ v ∷ []) net.tags (distinct_push net.vlans v is.vlans_once (λ i. false≢true (sym new ∙ (found vlan_eq vlan_eq-true vlan_eq-refl v net.vlans).1 i)))
       (each_append IsVlan net.vlans (v ∷ []) is.vlans (form, tt)) (omega arith) is.tags
 
   pub tags_kept : (range : Option TagRange) → IfSome range (λ t. IsVlanId t.first × IsVlanId t.last × (t.first ≤ t.last)) → IsNetwork (with_tags net range)
-  tags_kept range form = declared net.vlans range is.vlans_once is.vlans is.few_vlans form
+  tags_kept range form = vlans_kept net.vlans range is.vlans_once is.vlans is.few_vlans form
 
 -- ---- what is at the ports
 
