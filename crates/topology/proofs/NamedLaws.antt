@@ -64,7 +64,7 @@ added_named m n k v name same new e =
 pub same_bytes : (s : List ℕ) → bytes_eq s s ≡ true
 same_bytes s = (bytes_eq-Decides s s).1 refl
 
-named_at : (names : List (List ℕ)) (n : ℕ) → IsDistinct names → n < length names → position_or_len (λ m. bytes_eq (get_or names n []) m) names ≡ n
+pub named_at : (names : List (List ℕ)) (n : ℕ) → IsDistinct names → n < length names → position_or_len (λ m. bytes_eq (get_or names n []) m) names ≡ n
 named_at [] n distinct lt = absurd (omega arith)
 named_at (x ∷ xs) zero distinct lt = rw (same_bytes x) refl
 named_at (x ∷ xs) (suc n) distinct lt =
