@@ -14,7 +14,7 @@ use Rattle.flow_rules.specs.Order.{by_parts, key_cmp, AreByKey}
 use Rattle.flow_rules.specs.Patterns.{key_eq}
 use Rattle.flow_rules.specs.declared.rules.Key.{Key}
 use Rattle.flow_rules.specs.declared.rules.Rule.{Rule}
-use Rattle.flow_rules.proofs.KeyLaws.{key_eq-true, key_eq-refl, port_told, vlan_told, key_of}
+use Rattle.flow_rules.proofs.KeyLaws.{key_eq-true, key_eq-refl, port_told, vlan_told, key_same}
 use Rattle.flow_rules.proofs.OrderLaws.{key_total}
 
 -- numbers that tie are one
@@ -42,11 +42,8 @@ key_tie a b e =
     let (vlan, e3) = tie_first _ _ e2 in
     let (base, e4) = tie_first _ _ e3 in
     let (len, _) = tie_first _ _ e4 in
-    ap (λ n. key_of n a.pattern.in_port a.pattern.vlan a.pattern.dst.base a.pattern.dst.len) (sym (nat_tie b.priority a.priority priority))
-    ∙ ap (λ p. key_of b.priority p a.pattern.vlan a.pattern.dst.base a.pattern.dst.len) (port_told a.pattern.in_port b.pattern.in_port (nat_tie _ _ port))
-    ∙ ap (λ v. key_of b.priority b.pattern.in_port v a.pattern.dst.base a.pattern.dst.len) (vlan_told a.pattern.vlan b.pattern.vlan (nat_tie _ _ vlan))
-    ∙ ap (λ n. key_of b.priority b.pattern.in_port b.pattern.vlan n a.pattern.dst.len) (nat_tie a.pattern.dst.base b.pattern.dst.base base)
-    ∙ ap (λ n. key_of b.priority b.pattern.in_port b.pattern.vlan b.pattern.dst.base n) (nat_tie a.pattern.dst.len b.pattern.dst.len len)
+    key_same a b (sym (nat_tie b.priority a.priority priority)) (port_told a.pattern.in_port b.pattern.in_port (nat_tie _ _ port))
+    (vlan_told a.pattern.vlan b.pattern.vlan (nat_tie _ _ vlan)) (nat_tie a.pattern.dst.base b.pattern.dst.base base) (nat_tie a.pattern.dst.len b.pattern.dst.len len)
 
 -- a search tells whether one of the rules has the key
 pub search_tells : (rules : List Rule) (k : Key) (r : Result ℕ ℕ) → AreByKey rules → IsSearchInRange r (length rules)

@@ -1,5 +1,5 @@
 -- The tests of keys say when two keys are the same.
-use Rattle.std.proofs.Common.{◌≡◌, ◌⊎◌, ℕ, true, false, refl, ◌∙◌, ap, subst, inl, inr, arith}
+use Rattle.std.proofs.Common.{◌≡◌, ◌⊎◌, ℕ, true, false, refl, ap, subst, inl, inr, arith}
 use Rattle.std.specs.Prelude.{◌==◌, Bool, Option, Some, None}
 use Rattle.std.specs.Option.{option_eq}
 use Rattle.std.proofs.lemmas.Bool.{eqb-true, eq-eqb, and_parts, and_from, false≢true, false_from_ne_true, both_ways}
@@ -12,7 +12,7 @@ use Rattle.flow_rules.specs.declared.rules.VlanTest.TheVariants as test
 use Rattle.flow_rules.specs.declared.rules.Key.{Key}
 
 -- whether two choices of an ingress port are the same
-abbrev in_port_eq : Option Port → Option Port → Bool
+abbrev pub in_port_eq : Option Port → Option Port → Bool
 in_port_eq = option_eq (λ (p q : Port). p.0 == q.0)
 
 in_port_eq-true : (a b : Option Port) → in_port_eq a b ≡ true → a ≡ b
@@ -41,9 +41,11 @@ vlan_test_eq-refl test.Any = refl
 vlan_test_eq-refl test.Untagged = refl
 vlan_test_eq-refl (test.Id n) = eq-eqb n n refl
 
--- a key by its parts
-abbrev pub key_of : ℕ → Option Port → VlanTest → ℕ → ℕ → Key
-key_of priority in_port vlan base len = record { priority = priority; pattern = record { in_port = in_port; vlan = vlan; dst = record { base = base; len = len } } }
+-- equal parts make equal keys
+pub key_same : (a b : Key) → a.priority ≡ b.priority → a.pattern.in_port ≡ b.pattern.in_port → a.pattern.vlan ≡ b.pattern.vlan
+    → a.pattern.dst.base ≡ b.pattern.dst.base → a.pattern.dst.len ≡ b.pattern.dst.len → a ≡ b
+key_same a b priority port vlan base len =
+    λ i. record { priority = priority i; pattern = record { in_port = port i; vlan = vlan i; dst = record { base = base i; len = len i } } }
 
 pub key_eq-true : (a b : Key) → key_eq a b ≡ true → a ≡ b
 key_eq-true a b e =
@@ -51,11 +53,8 @@ key_eq-true a b e =
     let (front2, base) = and_parts _ _ front in
     let (front3, vlan) = and_parts _ _ front2 in
     let (priority, port) = and_parts _ _ front3 in
-    ap (λ n. key_of n a.pattern.in_port a.pattern.vlan a.pattern.dst.base a.pattern.dst.len) (eqb-true a.priority b.priority priority)
-    ∙ ap (λ p. key_of b.priority p a.pattern.vlan a.pattern.dst.base a.pattern.dst.len) (in_port_eq-true a.pattern.in_port b.pattern.in_port port)
-    ∙ ap (λ v. key_of b.priority b.pattern.in_port v a.pattern.dst.base a.pattern.dst.len) (vlan_test_eq-true a.pattern.vlan b.pattern.vlan vlan)
-    ∙ ap (λ n. key_of b.priority b.pattern.in_port b.pattern.vlan n a.pattern.dst.len) (eqb-true a.pattern.dst.base b.pattern.dst.base base)
-    ∙ ap (λ n. key_of b.priority b.pattern.in_port b.pattern.vlan b.pattern.dst.base n) (eqb-true a.pattern.dst.len b.pattern.dst.len len)
+    key_same a b (eqb-true a.priority b.priority priority) (in_port_eq-true a.pattern.in_port b.pattern.in_port port) (vlan_test_eq-true a.pattern.vlan b.pattern.vlan vlan)
+    (eqb-true a.pattern.dst.base b.pattern.dst.base base) (eqb-true a.pattern.dst.len b.pattern.dst.len len)
 
 pub key_eq-refl : (a : Key) → key_eq a a ≡ true
 key_eq-refl a =

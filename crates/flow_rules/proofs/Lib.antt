@@ -1,5 +1,6 @@
 pub mod LookupLaws
 pub mod KeyLaws
+pub mod EqualLaws
 pub mod OrderLaws
 pub mod ScanLaws
 pub mod BestLaws

@@ -117,11 +117,11 @@ pub action_eq-refl : (a : Action) → action_eq a a ≡ true
 action_eq-refl Discard = refl
 action_eq-refl (Out p r) = and_from _ _ (eq-eqb p.0 p.0 refl) (rewrite_eq-refl r)
 
+pub rule_same : (a b : Rule) → a.key ≡ b.key → a.action ≡ b.action → a ≡ b
+rule_same a b key action = λ i. record { key = key i; action = action i }
+
 pub rule_eq-true : (a b : Rule) → rule_eq a b ≡ true → a ≡ b
-rule_eq-true a b e =
-    let (key, action) = and_parts _ _ e in
-    ap (λ (k : Key). let x : Rule = record { key = k; action = a.action } in x) (key_eq-true a.key b.key key)
-    ∙ ap (λ (v : Action). let x : Rule = record { key = b.key; action = v } in x) (action_eq-true a.action b.action action)
+rule_eq-true a b e = let (key, action) = and_parts _ _ e in rule_same a b (key_eq-true a.key b.key key) (action_eq-true a.action b.action action)
 
 pub rule_eq-refl : (a : Rule) → rule_eq a a ≡ true
 rule_eq-refl a = and_from _ _ (key_eq-refl a.key) (action_eq-refl a.action)

@@ -21,7 +21,7 @@ use Rattle.flow_rules.specs.Tables.{lookup, rules_at}
 use Rattle.flow_rules.specs.declared.rules.Rule.{Rule}
 use Rattle.flow_rules.specs.declared.rules.Action.{Action}
 use Rattle.flow_rules.specs.declared.rules.Action.TheVariants as action
-use Rattle.path_walk.specs.Outcomes.{header_at, rewritten_vlan, sent_outcome, action_outcome}
+use Rattle.path_walk.specs.Outcomes.{header_at, rewritten_vlan, sent_outcome, action_outcome, outcome}
 use Rattle.path_walk.specs.Paths.{outcome_in}
 use Rattle.path_walk.specs.declared.Outcome.TheVariants.{Discard, Leave, Go}
 
@@ -89,9 +89,12 @@ module _ (net : Network) (valid : IsNetwork net) where
         | false ↦ λ f. sent_within stop (end_at net stop) port (rewritten_vlan rewrite place.vlan) next refl f
       ] e
 
-  -- a hop goes to a switch of the network
+  -- a hop goes to a switch of the network, whatever table is there
+  pub hop_within : (table : List Rule) (dst : ℕ) (place next : Place) → outcome net table place dst ≡ Go next → next.switch.0 < switch_count net
+  hop_within table dst place next e = acted_within place (lookup (header_at place dst) table) next e
+
   pub go_within : (tables : List (List Rule)) (dst : ℕ) (place next : Place) → outcome_in net tables place dst ≡ Go next → next.switch.0 < switch_count net
-  go_within tables dst place next e = acted_within place (lookup (header_at place dst) (rules_at tables place.switch)) next e
+  go_within tables dst place next e = hop_within (rules_at tables place.switch) dst place next e
 
   -- an entry is at a switch of the network
   pub entry_within : (place : Place) → IsEntry net place → place.switch.0 < switch_count net

@@ -1,5 +1,5 @@
 -- What every network keeps as it grows.
-use Rattle.std.proofs.Common.{◌≡◌, ℕ, ◌+◌, ◌<◌, ◌≤◌, Bool, true, false, cond, IsTrue, List, [], ◌∷◌, ◌++◌, map, length, None, is_some, position, refl, sym, ◌∙◌, ap, subst, inl, inr, arith, append_assoc}
+use Rattle.std.proofs.Common.{◌≡◌, ℕ, ◌+◌, ◌<◌, ◌≤◌, Bool, true, false, cond, IsTrue, List, [], ◌∷◌, ◌++◌, map, length, Option, None, IfSome, is_some, position, refl, sym, ◌∙◌, ap, subst, inl, inr, arith, append_assoc}
 use Rattle.std.specs.Prelude.{◌==◌, count_by, filter}
 use Rattle.std.specs.Str.{bytes_eq}
 use Rattle.std.specs.List.{AllByRecursion, list_any, list_all}
@@ -18,9 +18,9 @@ use Rattle.net_base.specs.declared.ids.Vlan.{Vlan}
 use Rattle.topology.proofs.LinkLaws.{any_from_in, ends_of}
 use Rattle.topology.proofs.EntryLaws.{found, vlan_eq-true, vlan_eq-refl}
 use Rattle.net_base.proofs.ItemLaws.{distinct_push}
-use Rattle.topology.specs.Networks.{Network, IsNetwork, IsName, IsPortNumber, IsVlan, stop_eq, vlan_eq, used_ports, switch_named, is_on, is_name_byte, is_name, is_capacity}
+use Rattle.topology.specs.Networks.{Network, TagRange, IsNetwork, IsName, IsPortNumber, IsVlan, IsVlanId, stop_eq, vlan_eq, used_ports, switch_named, is_on, is_name_byte, is_name, is_capacity}
 use Rattle.topology.specs.Ends.{port_ends, IsPort}
-use Rattle.topology.specs.Growth.{with_switch, with_link, with_host, with_vlan}
+use Rattle.topology.specs.Growth.{with_switch, with_link, with_host, with_vlan, with_tags}
 use Rattle.topology.specs.declared.net.Link.{Link}
 use Rattle.topology.specs.declared.net.End.{End}
 use Rattle.topology.specs.declared.net.End.TheVariants as at
@@ -159,79 +159,59 @@ module _ (net : Network) (is : IsNetwork net) where
   ports_kept : ArePorts (length net.names) (used_ports net)
   ports_kept = record { once = is.ports_once; ports = is.ports; few = is.few_ports }
 
-  pub link_kept : (a b : Stop) → IsPort net a → IsPort net b → list_any (stop_eq a) (used_ports net) ≡ false → list_any (stop_eq b) (used_ports net ++ a ∷ []) ≡ false
-      → count_by (is_on a.switch) (used_ports net) < 64 → count_by (is_on b.switch) (used_ports net ++ a ∷ []) < 64 → IsNetwork (with_link net a b)
-  link_kept a b a_port b_port a_free b_free a_room b_room =
-      let n = length net.names in
-      let both = push_ports n (used_ports net ++ a ∷ []) b (push_ports n (used_ports net) a ports_kept a_free a_room a_port) b_free b_room b_port in
-      let all : ArePorts n (used_ports (with_link net a b)) = subst (λ (ys : List Stop). ArePorts n ys) (sym (used_link net a b)) both in
-      record {
-        same_count = is.same_count;
-        few = is.few;
-        names = is.names;
-        name_forms = is.name_forms;
-        capacities = is.capacities;
-        ports_once = all.once;
-        ports = all.ports;
-        few_ports = all.few;
-        vlans_once = is.vlans_once;
-        vlans = is.vlans;
-        few_vlans = is.few_vlans;
-        tags = is.tags;
-      }
-
-  -- without links and host ports
-  pub unlinked_kept : IsNetwork (record net { links = []; hosts = [] })
-  unlinked_kept = record {
+  -- with these links and host ports
+  ends_kept : (links : List Link) (hosts : List Stop) → ArePorts (length net.names) (hosts ++ ends_of links) → IsNetwork (record net { links = links; hosts = hosts })
+  ends_kept links hosts all = record {
     same_count = is.same_count;
     few = is.few;
     names = is.names;
     name_forms = is.name_forms;
     capacities = is.capacities;
-    ports_once = tt;
-    ports = tt;
-    few_ports = λ s. omega arith;
+    ports_once = all.once;
+    ports = all.ports;
+    few_ports = all.few;
     vlans_once = is.vlans_once;
     vlans = is.vlans;
     few_vlans = is.few_vlans;
     tags = is.tags;
   }
 
+  -- with these VLANs and this range of tags
+  vlans_kept : (vlans : List Vlan) (tags : Option TagRange) → IsDistinct vlans → AllByRecursion IsVlan vlans → length vlans ≤ 64
+      → IfSome tags (λ t. IsVlanId t.first × IsVlanId t.last × (t.first ≤ t.last)) → IsNetwork (record net { vlans = vlans; tags = tags })
+  vlans_kept vlans tags once each few range = record {
+    same_count = is.same_count;
+    few = is.few;
+    names = is.names;
+    name_forms = is.name_forms;
+    capacities = is.capacities;
+    ports_once = is.ports_once;
+    ports = is.ports;
+    few_ports = is.few_ports;
+    vlans_once = once;
+    vlans = each;
+    few_vlans = few;
+    tags = range;
+  }
+
+  pub link_kept : (a b : Stop) → IsPort net a → IsPort net b → list_any (stop_eq a) (used_ports net) ≡ false → list_any (stop_eq b) (used_ports net ++ a ∷ []) ≡ false
+      → count_by (is_on a.switch) (used_ports net) < 64 → count_by (is_on b.switch) (used_ports net ++ a ∷ []) < 64 → IsNetwork (with_link net a b)
+  link_kept a b a_port b_port a_free b_free a_room b_room =
+      let n = length net.names in
+      let both = push_ports n (used_ports net ++ a ∷ []) b (push_ports n (used_ports net) a ports_kept a_free a_room a_port) b_free b_room b_port in
+      ends_kept (with_link net a b).links net.hosts (subst (λ (ys : List Stop). ArePorts n ys) (sym (used_link net a b)) both)
+
   pub host_kept : (stop : Stop) → IsPort net stop → list_any (stop_eq stop) (used_ports net) ≡ false → count_by (is_on stop.switch) (used_ports net) < 64 → IsNetwork (with_host net stop)
-  host_kept stop port free room =
-      let all = insert_ports (length net.names) net.hosts (ends_of net.links) stop ports_kept free room port in
-      record {
-        same_count = is.same_count;
-        few = is.few;
-        names = is.names;
-        name_forms = is.name_forms;
-        capacities = is.capacities;
-        ports_once = all.once;
-        ports = all.ports;
-        few_ports = all.few;
-        vlans_once = is.vlans_once;
-        vlans = is.vlans;
-        few_vlans = is.few_vlans;
-        tags = is.tags;
-      }
+  host_kept stop port free room = ends_kept net.links (net.hosts ++ stop ∷ []) (insert_ports (length net.names) net.hosts (ends_of net.links) stop ports_kept free room port)
 
   pub vlan_kept : (v : Vlan) → length net.vlans < 64 → IsVlan v → list_any (vlan_eq v) net.vlans ≡ false → IsNetwork (with_vlan net v)
   vlan_kept v room form new =
       let more = length_push net.vlans v in
-      record {
-        same_count = is.same_count;
-        few = is.few;
-        names = is.names;
-        name_forms = is.name_forms;
-        capacities = is.capacities;
-        ports_once = is.ports_once;
-        ports = is.ports;
-        few_ports = is.few_ports;
-        vlans_once = distinct_push net.vlans v is.vlans_once (λ i. false≢true (sym new ∙ (found vlan_eq vlan_eq-true vlan_eq-refl v net.vlans).1 i));
-        vlans = each_append IsVlan net.vlans (v ∷ []) is.vlans (form, tt);
-        few_vlans = omega arith;
-        tags = is.tags;
-      }
+      vlans_kept (net.vlans ++ v ∷ []) net.tags (distinct_push net.vlans v is.vlans_once (λ i. false≢true (sym new ∙ (found vlan_eq vlan_eq-true vlan_eq-refl v net.vlans).1 i)))
+      (each_append IsVlan net.vlans (v ∷ []) is.vlans (form, tt)) (omega arith) is.tags
+
+  pub tags_kept : (range : Option TagRange) → IfSome range (λ t. IsVlanId t.first × IsVlanId t.last × (t.first ≤ t.last)) → IsNetwork (with_tags net range)
+  tags_kept range form = vlans_kept net.vlans range is.vlans_once is.vlans is.few_vlans form
 
 -- ---- what is at the ports
 

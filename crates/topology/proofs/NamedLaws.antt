@@ -1,11 +1,12 @@
 -- The switches as the code holds them, by name.
 use Rattle.std.proofs.Common.{◌≡◌, ℕ, zero, suc, ◌+◌, ◌<◌, Bool, true, false, cond, not, List, [], ◌∷◌, ◌++◌, map, length, get_or, Option, Some, None, is_some, position, String, string_bytes, Global, refl, sym, ap, ◌∙◌, subst, arith}
-use Rattle.std.specs.Prelude.{string_eq}
+use Rattle.std.specs.Prelude.{nat_lt, string_eq}
 use Rattle.std.specs.Str.{bytes_eq}
 use Rattle.std.specs.List.{position_or_len}
 use Rattle.std.specs.Map.{lookup}
-use Rattle.std.proofs.lemmas.Bool.{false_from_ne_true}
+use Rattle.std.proofs.lemmas.Bool.{false_from_ne_true, lt-ltb, ltb-true}
 use Rattle.std.proofs.lemmas.List.{length-map, map_push}
+use Rattle.std.proofs.lemmas.Option.{cond_some}
 use Rattle.std.proofs.lemmas.Slice.Eq.{bytes_eq-Decides}
 use Rattle.indexmap.specs.IndexMap.{IndexMap, keys, get, insert_entry}
 use Rattle.indexmap.proofs.MapLemmas.{some_index}
@@ -70,3 +71,13 @@ named_at (x ∷ xs) (suc n) distinct lt =
     let name : List ℕ = get_or xs n [] in
     let other : bytes_eq name x ≡ false = false_from_ne_true (bytes_eq name x) (λ e. distinct.0 (subst (λ m. IsIn m xs) ((bytes_eq-Decides name x).0 e) (in_at xs n [] (omega arith)))) in
     rw (other, named_at xs n distinct.1 (omega arith)) (omega arith)
+
+pub named_again : (names : List (List ℕ)) (n : ℕ) → IsDistinct names → n < length names → switch_named names (get_or names n []) ≡ Some n
+named_again names n distinct lt = rw (named_at names n distinct lt, lt-ltb n (length names) lt) refl
+
+-- and has a number below their count
+pub named_within : (names : List (List ℕ)) (name : List ℕ) (s : ℕ) → switch_named names name ≡ Some s → s < length names
+named_within names name s e =
+    let place : ℕ = position_or_len (λ n. bytes_eq name n) names in
+    let found = cond_some (nat_lt place (length names)) place s e in
+    subst (λ (k : ℕ). k < length names) found.1 (ltb-true place (length names) found.0)

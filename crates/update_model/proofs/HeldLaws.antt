@@ -32,7 +32,7 @@ module _ (P : Rule → Type 0) where
   each_after [] rules all these = all
   each_after (c ∷ cs) rules all these = each_after cs (rules_after_change c rules) (each_after_change c rules all these.0) these.1
 
-  each_tables_after : (cs : List Change) (tables : List (List Rule)) → AllByRecursion (AllByRecursion P) tables → EachRuleOf cs → AllByRecursion (AllByRecursion P) (tables_after cs tables)
+  pub each_tables_after : (cs : List Change) (tables : List (List Rule)) → AllByRecursion (AllByRecursion P) tables → EachRuleOf cs → AllByRecursion (AllByRecursion P) (tables_after cs tables)
   each_tables_after [] tables all these = all
   each_tables_after (c ∷ cs) tables all these =
       each_tables_after cs (tables_after_change c tables)

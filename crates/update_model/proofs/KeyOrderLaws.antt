@@ -1,20 +1,17 @@
 -- The key order is a strict total order, so keys in order stand once each.
 use Rattle.std.proofs.Common.{◌≡◌, ◌⊎◌, ℕ, zero, suc, ◌<◌, ◌≤◌, true, false, cond, List, [], ◌∷◌, refl, sym, ◌∙◌, subst, ap, inl, inr, arith}
-use Rattle.std.specs.Prelude.{◌==◌, nat_lt, Option, Some, None}
+use Rattle.std.specs.Prelude.{◌==◌, nat_lt}
 use Rattle.std.specs.Ordering.{is_lt, nat_cmp}
 use Rattle.std.specs.declared.cmp.Ordering.{Ordering}
 use Rattle.std.specs.declared.cmp.Ordering.TheVariants.{Less, Equal, Greater}
 use Rattle.std.proofs.lemmas.Bool.{eqb-true, eq-eqb, ltb-true, lt-ltb, le-ltb, both_ways, cond_both, cases_eq, cases_lt}
 use Rattle.net_base.specs.Members.{IsIn, IsDistinct}
-use Rattle.net_base.specs.declared.ids.Port.{Port}
 use Rattle.flow_rules.specs.Order.{port_rank, vlan_rank, by_parts, key_cmp}
 use Rattle.flow_rules.specs.Patterns.{key_eq}
 use Rattle.flow_rules.specs.declared.rules.Key.{Key}
-use Rattle.flow_rules.specs.declared.rules.VlanTest.{VlanTest}
 use Rattle.flow_rules.specs.declared.rules.VlanTest.TheVariants as test
-use Rattle.flow_rules.proofs.KeyLaws.{key_eq-true, key_eq-false, port_told, vlan_told}
+use Rattle.flow_rules.proofs.KeyLaws.{key_eq-true, key_eq-false, port_told, vlan_told, key_same}
 use Rattle.update_model.specs.Remaining.{with_key, keys_in_order}
-use Rattle.net_base.proofs.NameLaws.{same_port}
 
 abbrev IsLess : List Ordering → Type 0
 IsLess parts = is_lt (by_parts parts) ≡ true
@@ -92,9 +89,6 @@ pub key_never : (a : Key) → IsKeyLess a a → ⊥
 key_never a =
     never a.priority _ (never (port_rank a.pattern.in_port) _ (never (vlan_rank a.pattern.vlan) _ (never a.pattern.dst.base _ (never a.pattern.dst.len [] (λ l. both_ways false refl l)))))
 
-abbrev key_of : ℕ → Option Port → VlanTest → ℕ → ℕ → Key
-key_of priority in_port vlan base len = record { priority = priority; pattern = record { in_port = in_port; vlan = vlan; dst = record { base = base; len = len } } }
-
 pub key_either : (a b : Key) → (IsKeyLess a b → ⊥) → IsKeyLess b a ⊎ (a ≡ b)
 key_either a b not_less =
     elim (one_way b.priority a.priority _ _ _
@@ -109,11 +103,7 @@ key_either a b not_less =
           let (vlan, e3) = e2 in
           let (base, e4) = e3 in
           let (len, _) = e4 in
-          inr (ap (λ n. key_of n a.pattern.in_port a.pattern.vlan a.pattern.dst.base a.pattern.dst.len) (sym priority)
-          ∙ ap (λ p. key_of b.priority p a.pattern.vlan a.pattern.dst.base a.pattern.dst.len) (port_told a.pattern.in_port b.pattern.in_port port)
-          ∙ ap (λ v. key_of b.priority b.pattern.in_port v a.pattern.dst.base a.pattern.dst.len) (vlan_told a.pattern.vlan b.pattern.vlan vlan)
-          ∙ ap (λ n. key_of b.priority b.pattern.in_port b.pattern.vlan n a.pattern.dst.len) base
-          ∙ ap (λ n. key_of b.priority b.pattern.in_port b.pattern.vlan b.pattern.dst.base n) len))
+          inr (key_same a b (sym priority) (port_told a.pattern.in_port b.pattern.in_port port) (vlan_told a.pattern.vlan b.pattern.vlan vlan) base len))
     ]
 
 -- each key comes before those after it
