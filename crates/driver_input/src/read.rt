@@ -6,10 +6,12 @@ ghost use Rattle.driver_input.specs.Inputs as files;
 
 use crate::fault::InputFault;
 use crate::inputs::{InputLine, Inputs};
-use crate::lines::{is_line_end, read_line_input};
+use crate::lines::read_line_input;
 use net_base::{is_comment, place_of};
 use std::alloc::Global;
 use topology::Net;
+
+const MAX_INPUTS: usize = 1_000_000;
 
 /// Reads the input of a line that is no comment.
 #[tactic(auto, unfolding(crate::specs::Inputs::input_at))]
@@ -26,7 +28,7 @@ fn add_input(
     ensures kept { OnOk result (files.AreInputs net.now inputs.new) }
 {
     let input = read_line_input(alloc, net, number, line)?;
-    if inputs.is_full() {
+    if inputs.list().len() >= MAX_INPUTS {
         return Err(InputFault::TooMany);
     }
     inputs.add(InputLine {
@@ -66,8 +68,8 @@ pub fn read_input(alloc: Global, net: &Net, bytes: &[u8]) -> Result<Inputs, Inpu
     ensures read { Gives Memory (λ s. s) result (files.inputs_in net.now bytes.now) }
     ensures within { IfOk result (files.AreInputs net.now) }
 {
-    let mut inputs = Inputs::make(alloc);
-    for (i, line) in bytes.split(is_line_end).enumerate() {
+    let mut inputs = Inputs::of(Vec::new(alloc));
+    for (i, line) in bytes.split(|b| *b == b'\n').enumerate() {
         read_line(alloc, net, &mut inputs, place_of(i + 1), line)?;
     }
     Ok(inputs)
