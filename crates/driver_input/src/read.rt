@@ -13,32 +13,8 @@ use topology::Net;
 
 const MAX_INPUTS: usize = 1_000_000;
 
-/// Reads the input of a line that is no comment.
-#[tactic(auto, unfolding(crate::specs::Inputs::input_at))]
-fn add_input(
-    alloc: Global,
-    net: &Net,
-    inputs: &mut Inputs,
-    number: u32,
-    line: &[u8],
-) -> Result<(), InputFault>
-    requires { files.AreInputs net.now inputs.old }
-    ensures read { let read = files.input_at net.now number inputs.old line.now in
-        MatchResult result (λ _. read ≡ Ok inputs.new) (λ e. Fails Memory e read) }
-    ensures kept { OnOk result (files.AreInputs net.now inputs.new) }
-{
-    let input = read_line_input(alloc, net, number, line)?;
-    if inputs.list().len() >= MAX_INPUTS {
-        return Err(InputFault::TooMany);
-    }
-    inputs.add(InputLine {
-        line: number,
-        input,
-    })?;
-    Ok(())
-}
-
 /// Reads a line, which may be a comment.
+#[tactic(auto, unfolding(crate::specs::Inputs::input_at))]
 fn read_line(
     alloc: Global,
     net: &Net,
@@ -54,7 +30,15 @@ fn read_line(
     if is_comment(line) {
         return Ok(());
     }
-    add_input(alloc, net, inputs, number, line)
+    let input = read_line_input(alloc, net, number, line)?;
+    if inputs.list().len() >= MAX_INPUTS {
+        return Err(InputFault::TooMany);
+    }
+    inputs.add(InputLine {
+        line: number,
+        input,
+    })?;
+    Ok(())
 }
 
 /// Reads the inputs of a file, each with the number of its line, from 1: `start` begins the next round, and
