@@ -3,8 +3,6 @@ ghost use Rattle.std.specs.Prelude.{◌≡◌};
 ghost use Rattle.driver_input.specs.declared.fault.InputFault.TheVariants.{Memory};
 ghost use Rattle.driver_input.specs.Faults.{fault_number, fault_name, fault_place};
 
-use std::alloc::{AllocError, AllocFailed};
-
 /// Why bytes are no file of inputs.
 #[derive(Clone, Copy, Debug, PartialEq, Eq)]
 pub enum InputFault {
@@ -47,22 +45,6 @@ impl InputFault {
             InputFault::BadLine(line) => line,
             InputFault::TooMany | InputFault::Memory => 0,
         }
-    }
-}
-
-impl From<AllocError> for InputFault {
-    ghost from_gives = { λ _ e. e ≡ Memory };
-
-    fn from(_: AllocError) -> InputFault {
-        InputFault::Memory
-    }
-}
-
-impl<T: Drop> From<AllocFailed<T>> for InputFault {
-    ghost from_gives = { λ _ e. e ≡ Memory };
-
-    fn from(_: AllocFailed<T>) -> InputFault {
-        InputFault::Memory
     }
 }
 

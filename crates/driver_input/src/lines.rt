@@ -1,5 +1,5 @@
 //! The input that a line spells: `start`, or `feed`, the name of a switch and bytes in hexadecimal digits.
-ghost use Rattle.std.specs.Prelude.{◌≡◌, ◌==◌, IfOk};
+ghost use Rattle.std.specs.Prelude.{◌≡◌, IfOk};
 ghost use Rattle.net_base.specs.Reading.{Gives};
 ghost use Rattle.driver_input.specs.declared.fault.InputFault.TheVariants.{Memory};
 ghost use Rattle.driver_input.specs.Lines as lines;
@@ -10,13 +10,6 @@ use net_base::cut_first;
 use std::alloc::Global;
 use text_lines::read_digits;
 use topology::Net;
-
-/// Whether a byte ends a line.
-pub fn is_line_end(byte: &u8) -> bool
-    ensures { result ≡ (byte.now == 10) }
-{
-    *byte == b'\n'
-}
 
 /// Reads a switch's name and a piece.
 #[tactic(auto, unfolding(crate::specs::Lines::fed_in))]

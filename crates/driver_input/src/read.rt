@@ -6,37 +6,15 @@ ghost use Rattle.driver_input.specs.Inputs as files;
 
 use crate::fault::InputFault;
 use crate::inputs::{InputLine, Inputs};
-use crate::lines::{is_line_end, read_line_input};
+use crate::lines::read_line_input;
 use net_base::{is_comment, place_of};
 use std::alloc::Global;
 use topology::Net;
 
-/// Reads the input of a line that is no comment.
-#[tactic(auto, unfolding(crate::specs::Inputs::input_at))]
-fn add_input(
-    alloc: Global,
-    net: &Net,
-    inputs: &mut Inputs,
-    number: u32,
-    line: &[u8],
-) -> Result<(), InputFault>
-    requires { files.AreInputs net.now inputs.old }
-    ensures read { let read = files.input_at net.now number inputs.old line.now in
-        MatchResult result (λ _. read ≡ Ok inputs.new) (λ e. Fails Memory e read) }
-    ensures kept { OnOk result (files.AreInputs net.now inputs.new) }
-{
-    let input = read_line_input(alloc, net, number, line)?;
-    if inputs.is_full() {
-        return Err(InputFault::TooMany);
-    }
-    inputs.add(InputLine {
-        line: number,
-        input,
-    })?;
-    Ok(())
-}
+const MAX_INPUTS: usize = 1_000_000;
 
 /// Reads a line, which may be a comment.
+#[tactic(auto, unfolding(crate::specs::Inputs::input_at))]
 fn read_line(
     alloc: Global,
     net: &Net,
@@ -52,7 +30,15 @@ fn read_line(
     if is_comment(line) {
         return Ok(());
     }
-    add_input(alloc, net, inputs, number, line)
+    let input = read_line_input(alloc, net, number, line)?;
+    if inputs.list().len() >= MAX_INPUTS {
+        return Err(InputFault::TooMany);
+    }
+    inputs.add(InputLine {
+        line: number,
+        input,
+    })?;
+    Ok(())
 }
 
 /// Reads the inputs of a file, each with the number of its line, from 1: `start` begins the next round, and
@@ -66,8 +52,8 @@ pub fn read_input(alloc: Global, net: &Net, bytes: &[u8]) -> Result<Inputs, Inpu
     ensures read { Gives Memory (λ s. s) result (files.inputs_in net.now bytes.now) }
     ensures within { IfOk result (files.AreInputs net.now) }
 {
-    let mut inputs = Inputs::make(alloc);
-    for (i, line) in bytes.split(is_line_end).enumerate() {
+    let mut inputs = Inputs::of(Vec::new(alloc));
+    for (i, line) in bytes.split(|b| *b == b'\n').enumerate() {
         read_line(alloc, net, &mut inputs, place_of(i + 1), line)?;
     }
     Ok(inputs)

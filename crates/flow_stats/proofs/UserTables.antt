@@ -31,7 +31,8 @@ use Rattle.config_files.proofs.UserTables.{IsUserTable, AreUserTables, all_push,
 use Rattle.flow_stats.specs.Entries.{Fill, entries_in}
 use Rattle.flow_stats.specs.Messages.{Reply, is_flow_reply, reply_in, progress_of}
 use Rattle.flow_stats.specs.Layout.{stats_reply_at}
-use Rattle.flow_stats.specs.Lines.{Sent, bytes_in, text_in, sent_in}
+use Rattle.text_lines.specs.Words.{bytes_in}
+use Rattle.flow_stats.specs.Lines.{Sent, text_in, sent_in}
 use Rattle.flow_stats.specs.Profile.{rule_in}
 use Rattle.flow_stats.specs.Tables as step
 use Rattle.flow_stats.specs.Tables.{rules_with, with_rule}
@@ -133,7 +134,7 @@ module _ (net : Network) where
   unfolding with_reply
   with_reply_kept s before after reply known bounded user e =
       let (tables, read, e1) = bind_ok (in_turn (step.entry_at net s) before.entries before.tables reply.entries)
-      (λ tables. let t : Told = record { tables = tables; progress = set before.progress s.0 reply.progress; entries = before.entries + length reply.entries } in Ok t) after e in
+      (λ tables. let t : StatsView = record { tables = tables; progress = set before.progress s.0 reply.progress; entries = before.entries + length reply.entries } in Ok t) after e in
       subst (λ (t : StatsView). AreUserTables net t.entries t.tables) (ok_is _ after e1) (entries_kept s before.entries before.tables tables reply.entries known bounded user read)
 
   reply_kept : (number : ℕ) (before after : StatsView) (sent : Sent) → sent.switch.0 < switch_count net → IsBytes sent.bytes → AreUserTables net before.entries before.tables

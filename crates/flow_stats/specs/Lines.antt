@@ -1,11 +1,10 @@
 -- The lines of a file of flow statistics.
-use Rattle.std.specs.Prelude.{ℕ, List, [], ◌∷◌, Option, None, Result, Ok, Err, if◌then◌else◌}
-use Rattle.std.specs.Result.{result_ok}
+use Rattle.std.specs.Prelude.{ℕ, List, Result, Ok, Err, if◌then◌else◌}
 use Rattle.std.specs.Str.{is_utf8}
-use Rattle.hex.specs.Hex.{decode_of}
 use Rattle.net_base.specs.declared.ids.SwitchId.{SwitchId}
 use Rattle.net_base.specs.Reading.{◌>>=◌, need}
 use Rattle.net_base.specs.Text.{cut_first}
+use Rattle.text_lines.specs.Words.{bytes_in}
 use Rattle.topology.specs.Networks.{Network, switch_named}
 use Rattle.flow_stats.specs.declared.fault.StatsFault.{StatsFault}
 use Rattle.flow_stats.specs.declared.fault.StatsFault.TheVariants.{BadLine}
@@ -19,11 +18,6 @@ pub record Sent : Type 0 where
 -- a message without where its bytes lie in memory
 abbrev pub sent_seen : SentMessage → Sent
 sent_seen s = record { switch = s.switch; bytes = s.bytes.items }
-
--- the bytes of pairs of hexadecimal digits of either case, at least one pair
-abbrev pub bytes_in : List ℕ → Option (List ℕ)
-bytes_in [] = None
-bytes_in (d ∷ ds) = result_ok (decode_of (d ∷ ds))
 
 -- the message in a text: the name of a switch of the network, one space, and digits
 unfoldable pub text_in : Network → ℕ → List ℕ → Result Sent StatsFault

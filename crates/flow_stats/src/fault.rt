@@ -4,7 +4,7 @@ ghost use Rattle.flow_stats.specs.declared.fault.StatsFault.TheVariants.{Memory}
 ghost use Rattle.flow_stats.specs.Faults.{field_name, fault_number, fault_name, fault_place};
 
 use net_base::SwitchId;
-use std::alloc::{AllocError, AllocFailed};
+use std::alloc::AllocError;
 
 /// A field of an entry that has to have a value of the profile, in the order of the tests.
 #[derive(Clone, Copy, PartialEq, Eq)]
@@ -132,14 +132,6 @@ impl From<AllocError> for StatsFault {
     ghost from_gives = { λ _ e. e ≡ Memory };
 
     fn from(_: AllocError) -> StatsFault {
-        StatsFault::Memory
-    }
-}
-
-impl<T: Drop> From<AllocFailed<T>> for StatsFault {
-    ghost from_gives = { λ _ e. e ≡ Memory };
-
-    fn from(_: AllocFailed<T>) -> StatsFault {
         StatsFault::Memory
     }
 }

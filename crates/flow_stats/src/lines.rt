@@ -1,14 +1,14 @@
 //! Lines: a switch's name, one space, and the bytes of a message in hexadecimal digits.
-ghost use Rattle.std.specs.Prelude.{◌≡◌, ◌==◌, ◌<◌, IfOk};
-ghost use Rattle.net_base.specs.Reading.{Gives, need};
+ghost use Rattle.std.specs.Prelude.{◌<◌, IfOk};
+ghost use Rattle.net_base.specs.Reading.{Gives};
 ghost use Rattle.topology.specs.Networks.{switch_count};
-ghost use Rattle.flow_stats.specs.declared.fault.StatsFault.TheVariants.{BadLine, Memory};
+ghost use Rattle.flow_stats.specs.declared.fault.StatsFault.TheVariants.{Memory};
 ghost use Rattle.flow_stats.specs.Lines as lines;
 
 use crate::fault::StatsFault;
-use hex::FromHexError;
 use net_base::{SwitchId, cut_first};
 use std::alloc::Global;
+use text_lines::read_digits;
 use topology::Net;
 
 /// The bytes of a message and the switch that sent it.
@@ -16,28 +16,6 @@ use topology::Net;
 pub struct SentMessage {
     pub switch: SwitchId,
     pub bytes: Vec<u8>,
-}
-
-/// Whether a byte ends a line.
-pub fn is_line_end(byte: &u8) -> bool
-    ensures { result ≡ (byte.now == 10) }
-{
-    *byte == b'\n'
-}
-
-/// Reads pairs of hexadecimal digits, at least one.
-fn read_digits(alloc: Global, number: u32, digits: &str) -> Result<Vec<u8>, StatsFault>
-    ensures { Gives Memory (λ v. v.items) result
-        (need (lines.bytes_in digits.now) (BadLine number)) }
-{
-    if digits.is_empty() {
-        return Err(StatsFault::BadLine(number));
-    }
-    match hex::decode(alloc, digits) {
-        Ok(bytes) => Ok(bytes),
-        Err(FromHexError::OutOfMemory) => Err(StatsFault::Memory),
-        Err(_) => Err(StatsFault::BadLine(number)),
-    }
 }
 
 /// Reads a line that is text.
@@ -48,7 +26,7 @@ fn read_text(alloc: Global, net: &Net, number: u32, text: &str) -> Result<SentMe
 {
     let (name, digits) = cut_first(text, ' ').ok_or(StatsFault::BadLine(number))?;
     let switch = net.find(name).ok_or(StatsFault::BadLine(number))?;
-    let bytes = read_digits(alloc, number, digits)?;
+    let bytes = read_digits(alloc, digits)?.ok_or(StatsFault::BadLine(number))?;
     Ok(SentMessage { switch, bytes })
 }
 

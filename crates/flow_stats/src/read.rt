@@ -15,7 +15,7 @@ ghost use Rattle.flow_stats.specs.Replies.{AreFor};
 use crate::adding::add_entries;
 use crate::fault::StatsFault;
 use crate::index::RuleIndex;
-use crate::lines::{SentMessage, is_line_end, read_sent};
+use crate::lines::{SentMessage, read_sent};
 use crate::messages::{FlowReply, Progress, read_reply};
 use flow_rules::Config;
 use net_base::{SwitchId, is_comment, place_of};
@@ -109,27 +109,8 @@ fn read_message(
     add_reply(net, told, sent.switch, &reply)
 }
 
-/// Reads a line that is no comment.
-#[tactic(auto, unfolding(crate::specs::Replies::message_at))]
-fn read_message_line(
-    alloc: Global,
-    net: &Net,
-    told: &mut StatsSoFar,
-    number: u32,
-    line: &[u8],
-) -> Result<(), StatsFault>
-    requires { AreFor net.now told.old }
-    ensures read { let read = replies.message_at net.now number (replies.told_seen told.old)
-        line.now in
-        MatchResult result (λ _. read ≡ Ok (replies.told_seen told.new))
-        (λ e. Fails Memory e read) }
-    ensures kept { OnOk result (AreFor net.now told.new) }
-{
-    let sent = read_sent(alloc, net, number, line)?;
-    read_message(alloc, net, told, number, &sent)
-}
-
 /// Reads a line, which may be a comment.
+#[tactic(auto, unfolding(crate::specs::Replies::message_at))]
 fn read_line(
     alloc: Global,
     net: &Net,
@@ -147,7 +128,8 @@ fn read_line(
     if is_comment(line) {
         return Ok(());
     }
-    read_message_line(alloc, net, told, number, line)
+    let sent = read_sent(alloc, net, number, line)?;
+    read_message(alloc, net, told, number, &sent)
 }
 
 /// Nothing is told, and the tables are empty.
@@ -171,7 +153,7 @@ fn read_lines(alloc: Global, net: &Net, bytes: &[u8]) -> Result<StatsSoFar, Stat
     ensures kept { IfOk result (AreFor net.now) }
 {
     let mut told = begin(alloc, net)?;
-    for (i, line) in bytes.split(is_line_end).enumerate() {
+    for (i, line) in bytes.split(|b| *b == b'\n').enumerate() {
         read_line(alloc, net, &mut told, place_of(i + 1), line)?;
     }
     Ok(told)

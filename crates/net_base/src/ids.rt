@@ -11,6 +11,9 @@ pub const MAX_SWITCHES: u32 = 128;
 /// on name none).
 pub const MAX_PORT: u64 = 65279;
 
+/// The greatest id of a VLAN: the ids 0 and 4095 are reserved (IEEE 802.1Q).
+pub const MAX_VLAN: u64 = 4094;
+
 /// A port number of a switch, 1 to 65279 where it is in use (OpenFlow 1.0.0, section 5.2.1).
 #[derive(Clone, Copy, Debug, PartialEq, Eq, PartialOrd, Ord, Hash)]
 pub struct Port(pub u16);

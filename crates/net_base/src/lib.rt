@@ -12,7 +12,7 @@ mod text;
 mod wants;
 
 pub use field::Field;
-pub use ids::{MAX_PORT, MAX_SWITCHES, Place, Port, Stop, SwitchId, Vlan};
+pub use ids::{MAX_PORT, MAX_SWITCHES, MAX_VLAN, Place, Port, Stop, SwitchId, Vlan};
 pub use lines::is_comment;
 pub use list_of::ListOf;
 pub use prefix::{BadPrefix, Prefix, read_address, read_prefix};

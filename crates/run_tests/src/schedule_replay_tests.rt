@@ -166,7 +166,7 @@ fn events_of(rt: &impl Abort, alloc: Global, net: &Net, schedule: &Schedule) -> 
     ensures few { length result ≤ length schedule.now }
 {
     let mut events = Events::make(alloc).expect(rt, "events");
-    for line in schedule.lines() {
+    for line in schedule.list() {
         assert!(rt; has_line(net, line.event));
         events.add(line.event).expect(rt, "an event");
     }
@@ -175,7 +175,7 @@ fn events_of(rt: &impl Abort, alloc: Global, net: &Net, schedule: &Schedule) -> 
 
 /// The events of a schedule as a schedule.
 fn written(rt: &impl Abort, alloc: Global, net: &Net, schedule: &Schedule) -> Vec<u8> {
-    assert!(rt; schedule.lines().len() <= 4_000_000);
+    assert!(rt; schedule.list().len() <= 4_000_000);
     let events = events_of(rt, alloc, net, schedule);
     schedule_text(alloc, net, &events).expect(rt, "a text")
 }
@@ -188,7 +188,7 @@ fn record_of(
     schedule: &Schedule,
     world: &World,
 ) -> Vec<u8> {
-    assert!(rt; schedule.lines().len() <= 4_000_000);
+    assert!(rt; schedule.list().len() <= 4_000_000);
     let events = events_of(rt, alloc, net, schedule);
     record_text(alloc, net, &events, world).expect(rt, "a text")
 }
@@ -223,7 +223,7 @@ fn enter(port: u16, vlan: Vlan, dst: u32) -> Event {
 fn is_line_of(rt: &impl Abort, net: &Net, alloc: Global, line: &[u8], event: Event) -> bool {
     let schedule = read(rt, alloc, net, line);
     let want = ScheduleLine { line: 1, event };
-    schedule.lines() == [want].as_slice() && written(rt, alloc, net, &schedule).as_slice() == line
+    schedule.list() == [want].as_slice() && written(rt, alloc, net, &schedule).as_slice() == line
 }
 
 /// Each of the lines is read as its event, and is written as it stands.
@@ -317,7 +317,7 @@ fn comments_count_as_lines_and_the_last_line_may_lack_its_end(rt: HostRuntime) {
             event: Event::Hop(3),
         },
     ];
-    assert!(rt; schedule.lines() == want.as_slice());
+    assert!(rt; schedule.list() == want.as_slice());
 }
 
 fn add(rt: &impl Abort, text: &mut Vec<u8>, bytes: &[u8]) {
@@ -332,7 +332,7 @@ fn a_schedule_has_at_most_4000000_events(rt: HostRuntime) {
         add(&rt, &mut text, b"hop 1\n");
     }
     let schedule = read(&rt, rt.alloc(), &net, &text);
-    assert!(rt; schedule.lines().len() == 4_000_000);
+    assert!(rt; schedule.list().len() == 4_000_000);
     add(&rt, &mut text, b"# no event\nhop 2\nhop x\n");
     let fault = read_schedule(rt.alloc(), &net, &text).err();
     assert!(rt; fault == Some(ScheduleFault::TooMany));

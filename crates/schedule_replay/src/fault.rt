@@ -4,7 +4,6 @@ ghost use Rattle.schedule_replay.specs.declared.fault.ScheduleFault.TheVariants.
 ghost use Rattle.schedule_replay.specs.Faults.{fault_number, fault_name, fault_field, fault_place};
 
 use net_base::Field;
-use std::alloc::{AllocError, AllocFailed};
 use thiserror::Error;
 
 /// Why bytes are no schedule.
@@ -59,22 +58,6 @@ impl ScheduleFault {
             ScheduleFault::BadLine(line) => line,
             ScheduleFault::TooMany | ScheduleFault::Memory => 0,
         }
-    }
-}
-
-impl From<AllocError> for ScheduleFault {
-    ghost from_gives = { λ _ e. e ≡ Memory };
-
-    fn from(_: AllocError) -> ScheduleFault {
-        ScheduleFault::Memory
-    }
-}
-
-impl<T: Drop> From<AllocFailed<T>> for ScheduleFault {
-    ghost from_gives = { λ _ e. e ≡ Memory };
-
-    fn from(_: AllocFailed<T>) -> ScheduleFault {
-        ScheduleFault::Memory
     }
 }
 

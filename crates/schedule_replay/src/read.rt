@@ -12,29 +12,10 @@ use net_base::{is_comment, place_of};
 use std::alloc::Global;
 use topology::Net;
 
-/// Reads the event of a line.
-#[tactic(auto, unfolding(crate::specs::Schedules::event_at))]
-fn add_event(
-    net: &Net,
-    schedule: &mut Schedule,
-    number: u32,
-    line: &[u8],
-) -> Result<(), ScheduleFault>
-    ensures { let read = schedules.event_at net.now number schedule.old line.now in
-        MatchResult result (λ _. read ≡ Ok schedule.new) (λ e. Fails Memory e read) }
-{
-    let event = read_event(net, line).ok_or(ScheduleFault::BadLine(number))?;
-    if schedule.is_full() {
-        return Err(ScheduleFault::TooMany);
-    }
-    schedule.add(ScheduleLine {
-        line: number,
-        event,
-    })?;
-    Ok(())
-}
+const MAX_EVENTS: usize = 4_000_000;
 
 /// Reads a line, which may be a comment.
+#[tactic(auto, unfolding(crate::specs::Schedules::event_at))]
 fn read_line(
     net: &Net,
     schedule: &mut Schedule,
@@ -47,14 +28,15 @@ fn read_line(
     if is_comment(line) {
         return Ok(());
     }
-    add_event(net, schedule, number, line)
-}
-
-/// Whether a byte ends a line.
-fn is_line_end(byte: &u8) -> bool
-    ensures { result ≡ (byte.now == 10) }
-{
-    *byte == b'\n'
+    let event = read_event(net, line).ok_or(ScheduleFault::BadLine(number))?;
+    if schedule.list().len() >= MAX_EVENTS {
+        return Err(ScheduleFault::TooMany);
+    }
+    schedule.add(ScheduleLine {
+        line: number,
+        event,
+    })?;
+    Ok(())
 }
 
 /// The events of a schedule, each with the number of its line, from 1: `start`, `settle`, `change N`,
@@ -64,8 +46,8 @@ fn is_line_end(byte: &u8) -> bool
 pub fn read_schedule(alloc: Global, net: &Net, bytes: &[u8]) -> Result<Schedule, ScheduleFault>
     ensures { Gives Memory (λ s. s) result (schedules.schedule_in net.now bytes.now) }
 {
-    let mut schedule = Schedule::make(alloc);
-    for (i, line) in bytes.split(is_line_end).enumerate() {
+    let mut schedule = Schedule::of(Vec::new(alloc));
+    for (i, line) in bytes.split(|b| *b == b'\n').enumerate() {
         read_line(net, &mut schedule, place_of(i + 1), line)?;
     }
     Ok(schedule)

@@ -36,7 +36,7 @@ pub fn replay(world: &mut World, schedule: &Schedule) -> Result<(), ReplayFault>
     // The events before the refusal happened.
     ensures err { IfErr result (λ fault. StopsBy world.old world.new schedule.now fault) }
 {
-    for line in schedule.lines() {
+    for line in schedule.list() {
         step_line(world, line)?;
     }
     Ok(())

@@ -3,10 +3,8 @@ ghost use Rattle.std.specs.Prelude.{◌≡◌, IfOk, option_map};
 ghost use Rattle.text_lines.specs.Words as spelled;
 
 use hex::FromHexError;
-use net_base::{Memory, Vlan, read_decimal};
+use net_base::{MAX_VLAN, Memory, Vlan, read_decimal};
 use std::alloc::Global;
-
-const MAX_VLAN: u64 = 4094;
 
 /// The bytes that pairs of hexadecimal digits of either case spell, at least one pair; none where the text isn't such pairs. The
 /// cost is that of one pass over the text.

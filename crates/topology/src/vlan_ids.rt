@@ -3,8 +3,7 @@ ghost use Rattle.std.specs.Prelude.{◌≡◌, ◌↔◌, IsTrue, true};
 ghost use Rattle.topology.specs.Networks as networks;
 ghost use Rattle.topology.specs.Networks.{IsVlanId};
 
-/// The greatest id of a VLAN: the ids 0 and 4095 are reserved (IEEE 802.1Q).
-const MAX_VLAN: u64 = 4094;
+use net_base::MAX_VLAN;
 
 /// Whether the number is an id that a VLAN may have: 1 to 4094 (IEEE 802.1Q).
 pub fn is_vlan_id(id: u64) -> bool

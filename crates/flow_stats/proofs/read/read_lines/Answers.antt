@@ -1,23 +1,19 @@
-use Rattle.std.proofs.Common.{refl, ℕ, ◌+◌, ◌≤◌, length, eqb, sym, ap, ◌∙◌, rules, arith}
+use Rattle.std.proofs.Common.{refl, ℕ, ◌+◌, length, eqb, sym, ap, ◌∙◌, rules, tests}
 use Rattle.std.proofs.lemmas.List.{length_push}
-use Rattle.std.proofs.lemmas.List.FromFn.{length-enumerate_from}
-use Rattle.std.proofs.lemmas.Iterator.Consumers.{YieldsList-turn, YieldsList-end, YieldsList-from_enumerate, YieldsList-at}
 use Rattle.std.proofs.lemmas.Iterator.Splits.{YieldsList-from_slice_split}
 use Rattle.std.proofs.lemmas.Result.{err_from_is_err_and}
 use Rattle.net_base.specs.Reading.{place_of}
 use Rattle.flow_stats.specs.declared.fault.StatsFault.TheVariants.{Memory}
 use Rattle.net_base.specs.Lines.{lines_of}
 use Rattle.flow_stats.specs.Replies.{line_at, told_in, told_seen}
-use Rattle.net_base.proofs.ItemTurns.{numbered_turn, goes_on, ends, is_done}
+use Rattle.net_base.proofs.ItemTurns.{goes_on, ends, is_done}
+use Rattle.text_lines.proofs.LineTurns.{line_turn, lines_end}
 use Rattle.flow_stats.proofs.read.read_lines.Goals as goal
 
 pub loop-i-preserved : goal.loop-i-preserved
 loop-i-preserved c =
-    let pieces = YieldsList-from_slice_split _ (λ (b : ℕ). eqb b 10) c.args.bytes.now c.split.ensures.rest c.split.ensures.done c.split.ensures.closure (λ x r q k. (refl, k.called.met ∙ ap (λ (b : ℕ). eqb b 10) k.shows)) in
-    let numbers = YieldsList-from_enumerate (YieldsList-at c.enumerate-i-items.ensures.source pieces) c.enumerate-i-items.ensures.count in
-    let road = YieldsList-at c.into_iter-i-iterator.ensures.into_iter_gives numbers in
-    let turn = YieldsList-turn road c.loop-i.yielded _ c.loop-i.yielded_by _ _ _ c.in-Some.is c.next.ensures.steps in
-    let here = numbered_turn (lines_of c.args.bytes.now) (length c.loop-i.yielded) c.in-Some.i c.in-Some.line.now turn.0 turn.1 in
+    let here = line_turn c.args.bytes.now c.loop-i.yielded _ _ c.loop-i.yielded_by c.into_iter-i-iterator.ensures.into_iter_gives c.enumerate-i-items.ensures.source c.enumerate-i-items.ensures.count c.in-Some.i c.in-Some.line c.in-Some.is c.next.ensures.steps
+    (YieldsList-from_slice_split _ (λ (b : ℕ). eqb b 10) c.args.bytes.now c.split.ensures.rest c.split.ensures.done c.split.ensures.closure (λ x r q k. search (rules, tests))) in
     record {
       read = rw length_push
           (goes_on (line_at c.args.net.now) (lines_of c.args.bytes.now) (length c.loop-i.yielded) (length c.loop-i.yielded + 1) (told_seen c.loop-i.told) c.in-Some.line.now c.in-Some.line.now (told_in c.args.net.now c.args.bytes.now)
@@ -27,11 +23,8 @@ loop-i-preserved c =
 
 pub returns-in_err-read_line-clause-read : goal.returns-in_err-read_line-clause-read
 returns-in_err-read_line-clause-read c =
-    let pieces = YieldsList-from_slice_split _ (λ (b : ℕ). eqb b 10) c.args.bytes.now c.split.ensures.rest c.split.ensures.done c.split.ensures.closure (λ x r q k. (refl, k.called.met ∙ ap (λ (b : ℕ). eqb b 10) k.shows)) in
-    let numbers = YieldsList-from_enumerate (YieldsList-at c.enumerate-i-items.ensures.source pieces) c.enumerate-i-items.ensures.count in
-    let road = YieldsList-at c.into_iter-i-iterator.ensures.into_iter_gives numbers in
-    let turn = YieldsList-turn road c.loop-i.yielded _ c.loop-i.yielded_by _ _ _ c.in-Some.is c.next.ensures.steps in
-    let here = numbered_turn (lines_of c.args.bytes.now) (length c.loop-i.yielded) c.in-Some.i c.in-Some.line.now turn.0 turn.1 in
+    let here = line_turn c.args.bytes.now c.loop-i.yielded _ _ c.loop-i.yielded_by c.into_iter-i-iterator.ensures.into_iter_gives c.enumerate-i-items.ensures.source c.enumerate-i-items.ensures.count c.in-Some.i c.in-Some.line c.in-Some.is c.next.ensures.steps
+    (YieldsList-from_slice_split _ (λ (b : ℕ). eqb b 10) c.args.bytes.now c.split.ensures.rest c.split.ensures.done c.split.ensures.closure (λ x r q k. search (rules, tests))) in
     let p = err_from_is_err_and c.from_residual-in_err-read_line.result c.from_residual-in_err-read_line.ensures.1 in
     rw (p.1, p.2)
     (ends (line_at c.args.net.now) (lines_of c.args.bytes.now) (length c.loop-i.yielded) (length c.loop-i.yielded + 1) (told_seen c.loop-i.told) c.in-Some.line.now c.in-Some.line.now (told_in c.args.net.now c.args.bytes.now)
@@ -39,10 +32,6 @@ returns-in_err-read_line-clause-read c =
 
 pub returns-clause-read : goal.returns-clause-read
 returns-clause-read c =
-    let pieces = YieldsList-from_slice_split _ (λ (b : ℕ). eqb b 10) c.args.bytes.now c.split.ensures.rest c.split.ensures.done c.split.ensures.closure (λ x r q k. (refl, k.called.met ∙ ap (λ (b : ℕ). eqb b 10) k.shows)) in
-    let numbers = YieldsList-from_enumerate (YieldsList-at c.enumerate-i-items.ensures.source pieces) c.enumerate-i-items.ensures.count in
-    let road = YieldsList-at c.into_iter-i-iterator.ensures.into_iter_gives numbers in
-    let all = YieldsList-end road c.loop-i.yielded _ c.loop-i.yielded_by _ _ c.in-None.is c.next.ensures.steps in
-    let count = length-enumerate_from 0 (lines_of c.args.bytes.now) in
-    let past : length (lines_of c.args.bytes.now) ≤ length c.loop-i.yielded = omega (arith, all.1, count) in
+    let past = lines_end c.args.bytes.now c.loop-i.yielded _ _ c.loop-i.yielded_by c.into_iter-i-iterator.ensures.into_iter_gives c.enumerate-i-items.ensures.source c.enumerate-i-items.ensures.count c.in-None.is c.next.ensures.steps
+    (YieldsList-from_slice_split _ (λ (b : ℕ). eqb b 10) c.args.bytes.now c.split.ensures.rest c.split.ensures.done c.split.ensures.closure (λ x r q k. search (rules, tests))) in
     is_done (line_at c.args.net.now) (lines_of c.args.bytes.now) (length c.loop-i.yielded) (length c.loop-i.yielded + 1) (told_seen c.loop-i.told) (told_in c.args.net.now c.args.bytes.now) past c.loop-i.invariant.read
