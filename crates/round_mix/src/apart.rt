@@ -23,12 +23,7 @@ fn are_apart(rules: &[MarkedRule]) -> bool
     requires { AreInKeyOrder rules.now }
     ensures { IsTrue result → AreApart rules.now }
 {
-    for i in 1..rules.len() {
-        if !is_apart(&rules[i - 1], &rules[i]) {
-            return false;
-        }
-    }
-    true
+    rules.is_sorted_by(|a, b| is_apart(a, b))
 }
 
 /// Sorts marked rules by their keys, and says whether their neighbours tell that no two of them clash.

@@ -146,16 +146,6 @@ impl Outcomes {
     }
 }
 
-/// Puts an item at the end of a list that has room for it.
-fn put<T: Drop>(list: &mut Vec<T>, item: T)
-    requires { vec_len list.old < vec_capacity list.old }
-    ensures items { list.new.items ≡ list.old.items ++ item ∷ [] }
-    ensures len { vec_len list.new ≡ vec_len list.old + 1 }
-    ensures room { vec_capacity list.old ≤ vec_capacity list.new }
-{
-    let _ = list.push(item);
-}
-
 impl Mark {
     /// Whether the rule stands in every mixture, with one action or another.
     fn is_kept(self) -> bool
@@ -178,9 +168,9 @@ fn put_actions(net: &Net, place: Place, marked: &MarkedRule, outcomes: &mut Vec<
         → vec_len outcomes.new ≡ vec_len outcomes.old + 1 }
     ensures room { vec_capacity outcomes.old ≤ vec_capacity outcomes.new }
 {
-    put(outcomes, act(net, place, marked.rule.action));
+    outcomes.push_reserved(act(net, place, marked.rule.action));
     if let Mark::Replaced(action) = marked.mark {
-        put(outcomes, act(net, place, action));
+        outcomes.push_reserved(act(net, place, action));
     }
 }
 
@@ -200,7 +190,7 @@ fn put_scan(net: &Net, place: Place, dst: u32, rules: &[MarkedRule], outcomes: &
             }
         }
     }
-    put(outcomes, Outcome::Discard);
+    outcomes.push_reserved(Outcome::Discard);
 }
 
 /// Puts the outcomes by the nearest rule, from a position on, that covers the packet; where the scan goes on, if it does.
@@ -230,7 +220,7 @@ fn put_nearest(
 {
     match nearest(rules, space, packet, from) {
         None => {
-            put(outcomes, Outcome::Discard);
+            outcomes.push_reserved(Outcome::Discard);
             None
         }
         Some(position) => {
@@ -300,7 +290,7 @@ fn put_among(
             }
         }
     }
-    put(outcomes, Outcome::Discard);
+    outcomes.push_reserved(Outcome::Discard);
 }
 
 /// Has an index hold the positions of the rules whose prefix holds the address.
@@ -379,27 +369,6 @@ fn clash_of(table: &Table, changes: &[Change], marks: &mut Vec<MarkedRule>) -> (
     match least_clash(marks) {
         Some(positions) => positions,
         None => unreachable!(),
-    }
-}
-
-/// Marks and sorts the rules of a table and the inserted ones, or says why not and which rules clash.
-fn mix_or_clash(
-    table: &Table,
-    changes: &[Change],
-    marks: &mut Vec<MarkedRule>,
-) -> Result<(), MixFault>
-    requires { length (all_rules table.now.rules changes.now) ≤ vec_capacity marks.old }
-    ensures ok { OnOk result (IsPrepared table.now.rules changes.now marks.new.items) }
-    ensures err { IfErr result (λ fault. IsFault table.now.rules changes.now fault) }
-    ensures room { vec_capacity marks.old ≤ vec_capacity marks.new }
-{
-    match mix(table, changes, marks) {
-        Ok(()) => Ok(()),
-        Err(MixRefusal::BadChange(i)) => Err(MixFault::BadChange(i)),
-        Err(MixRefusal::Unclear) => {
-            let (i, j) = clash_of(table, changes, marks);
-            Err(MixFault::Ambiguous(i, j))
-        }
     }
 }
 
@@ -499,15 +468,27 @@ impl Mixed {
             (λ marks. length marks ≡ entries_needed table.now.rules changes.now) }
         ensures room { self.old.room ≤ self.new.room }
     {
+        match self.prepare(table, changes) {
+            Ok(()) => Ok(()),
+            Err(MixRefusal::BadChange(i)) => Err(MixFault::BadChange(i)),
+            Err(MixRefusal::Unclear) => Err(self.ambiguity(table, changes)),
+        }
+    }
+
+    /// Which rules make a mixture unclear, where one is. Nothing is prepared after that.
+    fn ambiguity(&mut self, table: &Table, changes: &[Change]) -> MixFault
+        requires unclear { AreUnclear table.now.rules changes.now }
+        requires room { entries_needed table.now.rules changes.now ≤ self.old.room }
+        ensures fault { IsFault table.now.rules changes.now result }
+        ensures nothing { self.new.prepared ≡ None }
+        ensures room { self.old.room ≤ self.new.room }
+    {
         self.is_prepared = false;
         self.aimed = None;
         self.is_indexed = false;
-        if let Err(fault) = mix_or_clash(table, changes, &mut self.rules) {
-            self.rules.clear();
-            return Err(fault);
-        }
-        self.is_prepared = true;
-        Ok(())
+        let (i, j) = clash_of(table, changes, &mut self.rules);
+        self.rules.clear();
+        MixFault::Ambiguous(i, j)
     }
 
     /// Prepares a switch that is prepared for a table alone for one change of it, where every mixture is clear, and says

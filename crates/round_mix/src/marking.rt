@@ -3,7 +3,7 @@ ghost use Rattle.std.specs.Prelude.{◌≡◌, ◌+◌, ◌≤◌, ◌++◌, len
 ghost use Rattle.std.specs.Option.{option_map_or};
 ghost use Rattle.round_mix.specs.Marks.{mark_by, change_of, marked_rule, inserted_rules, all_rules};
 
-use crate::{Mark, MarkedRule, put};
+use crate::{Mark, MarkedRule};
 use flow_rules::Rule;
 use update_model::Change;
 
@@ -54,7 +54,7 @@ fn put_table(changes: &[Change], rules: &[Rule], marks: &mut Vec<MarkedRule>)
     ensures room { vec_capacity marks.old ≤ vec_capacity marks.new }
 {
     for rule in rules {
-        put(marks, mark(changes, rule));
+        marks.push_reserved(mark(changes, rule));
     }
 }
 
@@ -67,7 +67,7 @@ fn put_inserted(naming: &[Change], changes: &[Change], marks: &mut Vec<MarkedRul
 {
     for change in changes {
         if let Change::Insert(_, rule) = change {
-            put(marks, mark(naming, rule));
+            marks.push_reserved(mark(naming, rule));
         }
     }
 }

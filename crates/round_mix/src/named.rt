@@ -1,7 +1,6 @@
 //! Many changes of one switch: each marks the rule that it names, which is looked up among the sorted ones.
-ghost use Rattle.std.specs.Prelude.{◌≡◌, ◌<◌, ◌≤◌, [], true, false, IsTrue, IfSome, length, slice_get, slice_set, vec_len, vec_capacity};
+ghost use Rattle.std.specs.Prelude.{◌≡◌, ◌<◌, ◌≤◌, [], true, false, IsTrue, IfSome, length, vec_capacity};
 ghost use Rattle.std.specs.List.{AllByRecursion};
-ghost use Rattle.std.specs.Option.{option_map_or};
 ghost use Rattle.net_base.specs.Members.{IsDistinct};
 ghost use Rattle.flow_rules.specs.Tables.{keys_of};
 ghost use Rattle.round_mix.specs.Marks.{all_rules, rules_of};
@@ -66,15 +65,18 @@ fn seek(marks: &[MarkedRule], change: &Change) -> Option<usize>
     None
 }
 
-/// Gives the rule at a position another mark.
-fn set_mark(marks: &mut Vec<MarkedRule>, i: usize, mark: Mark)
-    requires { i < vec_len marks.old }
-    ensures items { marks.new.items
-        ≡ option_map_or (λ m. slice_set marks.old.items i (record m { mark = mark }))
-        (slice_get marks.old.items i) marks.old.items }
+/// Marks the rule at a position, if there is one, by the change that names it.
+fn mark_at(marks: &mut Vec<MarkedRule>, place: Option<usize>, change: &Change) -> bool
+    requires { IfSome place (IsPlaceOf change.now marks.old.items) }
+    ensures marked { IsTrue result → IsMarkedBy change.now marks.old.items marks.new.items }
+    ensures no { result ≡ false → marks.new.items ≡ marks.old.items }
     ensures room { vec_capacity marks.new ≡ vec_capacity marks.old }
 {
-    marks[i].mark = mark;
+    let Some(i) = place else {
+        return false;
+    };
+    marks[i].mark = mark_by(change);
+    true
 }
 
 /// Marks the rule that a change names, if it stands among the sorted ones and is sure.
@@ -82,11 +84,8 @@ fn put_mark(marks: &mut Vec<MarkedRule>, change: &Change) -> bool
     ensures marked { IsTrue result → IsMarkedBy change.now marks.old.items marks.new.items }
     ensures room { vec_capacity marks.new ≡ vec_capacity marks.old }
 {
-    let Some(i) = place_of(marks, change) else {
-        return false;
-    };
-    set_mark(marks, i, mark_by(change));
-    true
+    let place = place_of(marks, change);
+    mark_at(marks, place, change)
 }
 
 /// Marks the rule that a change names, if it stands among those in descending priority and is sure.
@@ -96,11 +95,8 @@ pub fn mark_named(marks: &mut Vec<MarkedRule>, change: &Change) -> bool
     ensures no { result ≡ false → marks.new.items ≡ marks.old.items }
     ensures room { vec_capacity marks.new ≡ vec_capacity marks.old }
 {
-    let Some(i) = seek(marks, change) else {
-        return false;
-    };
-    set_mark(marks, i, mark_by(change));
-    true
+    let place = seek(marks, change);
+    mark_at(marks, place, change)
 }
 
 /// Marks sorted rules, all of them sure before, by changes. It stops at a change that names none of them, or one that an

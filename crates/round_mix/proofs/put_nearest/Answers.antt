@@ -20,7 +20,7 @@ returns-then-is_kept-clause-ends c _ =
 
 pub returns-in-None-clause-ends : goal.returns-in-None-clause-ends
 returns-in-None-clause-ends c _ =
-    c.put.ensures.items
+    c.push_reserved.ensures.items
     ∙ ap (λ (found : List Action). c.args.outcomes.now.items ++ map (action_outcome c.args.net.now c.args.packet.place) found)
     (sym (scan_none (header_at c.args.packet.place c.args.packet.dst) c.args.rules.now c.args.from c.requires.within c.in-None.ensures.first))
 
