@@ -1,9 +1,11 @@
 -- The walk along a path up to the first switch that comes again, and the room that it is kept in.
-use Rattle.std.specs.Prelude.{◌≡◌, ℕ, ◌<◌, ◌==◌, Bool, false, List, [], ◌∷◌, ◌++◌, map, length, slice_index_or}
+use Rattle.std.specs.Prelude.{◌≡◌, ℕ, ◌<◌, ◌≤◌, ◌==◌, Bool, List, [], ◌∷◌, ◌++◌, map, Vec, vec_capacity}
+use Rattle.std.specs.declared.alloc.Global.{Global}
 use Rattle.std.specs.List.{list_any}
 use Rattle.net_base.specs.Members.{IsIn, IsDistinct}
 use Rattle.net_base.specs.Walks.{IsWalk}
 use Rattle.net_base.specs.Places.{stop_of}
+use Rattle.net_base.specs.Switches.{has, most_switches}
 use Rattle.net_base.specs.declared.ids.SwitchId.{SwitchId}
 use Rattle.net_base.specs.declared.ids.Place.{Place}
 use Rattle.net_base.specs.declared.ids.Stop.{Stop}
@@ -15,20 +17,31 @@ use Rattle.path_walk.specs.declared.Ended.{Ended}
 use Rattle.path_walk.specs.declared.Ended.TheVariants as ended
 use Rattle.path_walk.specs.declared.PathEnd.{PathEnd}
 use Rattle.path_walk.specs.declared.PathEnd.TheVariants.{Left, Dropped, Repeats}
+use Rattle.path_walk.specs.declared.PlacesEnd.{PlacesEnd}
+use Rattle.path_walk.specs.declared.PlacesEnd.TheVariants as end
 
--- a room for the stops of a path, made for a network with so many switches
+-- a room for the places of a path, made for a network with so many switches
 pub record RoomState : Type 0 where
-  pub stops : List Stop
+  pub places : List Place
   pub switches : ℕ
 
--- whether a stop of the list is at the switch
-abbrev pub is_visited : List Stop → SwitchId → Bool
-is_visited stops s = list_any (λ stop. stop.switch.0 == s.0) stops
+-- whether a place of the list is at the switch
+abbrev pub is_visited : List Place → SwitchId → Bool
+is_visited places s = list_any (λ place. place.switch.0 == s.0) places
 
--- the mark of each switch says whether it is visited, and there is room for one stop more than there are switches
-pub record IsRoom (stops : List Stop) (capacity : ℕ) (visited : List Bool) : Type 0 where
-  pub room : length visited < capacity
-  pub marks : (s : SwitchId) → s.0 < length visited → slice_index_or visited s.0 false ≡ is_visited stops s
+-- the stops are those of the places, the set has their switches, and there is room for one place more than there are switches
+pub record IsRoom (places : Vec Place Global) (stops : Vec Stop Global) (switches visited : ℕ) : Type 0 where
+  pub few : switches ≤ most_switches
+  pub places_fit : switches < vec_capacity places
+  pub stops_fit : switches < vec_capacity stops
+  pub stops_are : stops.items ≡ map stop_of places.items
+  pub visits : (s : SwitchId) → has visited s ≡ is_visited places.items s
+
+-- the tables send a packet to the address from the entry on through these places
+pub record IsFollowed (net : Network) (tables : List (List Rule)) (entry : Place) (dst : ℕ) (places : List Place) : Type 0 where
+  pub rest : List Place
+  pub places_are : places ≡ entry ∷ rest
+  pub walk : IsWalk (Forwards net tables dst) entry rest
 
 -- the path has these stops and this end, and no switch twice
 pub record EndsOnce (net : Network) (tables : List (List Rule)) (entry : Place) (dst : ℕ) (stops : List Stop) (ended : Ended) : Type 0 where
@@ -44,6 +57,12 @@ pub record ComesAgain (net : Network) (tables : List (List Rule)) (entry : Place
   pub distinct : IsDistinct (map (λ place. place.switch) (entry ∷ front))
   pub seen : IsIn again.switch (map (λ place. place.switch) (entry ∷ front))
   pub is : again.switch ≡ s
+
+-- the path has these stops and ends so, or these are its stops up to the first that comes again
+abbrev pub PathEndsAs : Network → List (List Rule) → Place → ℕ → List Stop → PlacesEnd → Type 0
+PathEndsAs net tables entry dst stops (end.Left s port vlan) = EndsOnce net tables entry dst stops (ended.Left s port vlan)
+PathEndsAs net tables entry dst stops (end.Dropped s) = EndsOnce net tables entry dst stops (ended.Dropped s)
+PathEndsAs net tables entry dst stops (end.Again s) = ComesAgain net tables entry dst stops s
 
 -- the walk along the path of an entry and an address has these stops and ends so
 abbrev pub WalksTo : Network → List (List Rule) → Place → ℕ → List Stop → PathEnd → Type 0

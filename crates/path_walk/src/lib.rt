@@ -7,7 +7,7 @@ mod walking;
 
 use net_base::{Place, Port, SwitchId, Vlan};
 pub use room::PathRoom;
-pub use walking::walk;
+pub use walking::{follow, walk};
 
 /// What becomes of a packet at a place, by the lookup in the table of the place's switch and what is at the output port.
 #[derive(Clone, Copy, PartialEq, Eq)]
@@ -31,6 +31,17 @@ pub enum PathEnd {
     Dropped(SwitchId),
     /// The packet came to this switch a second time: the path is a loop, or visits a switch twice.
     Repeats(SwitchId),
+}
+
+/// How the places of a path end. They end at the latest at the first one whose switch was visited before.
+#[derive(Clone, Copy, PartialEq, Eq)]
+pub enum PlacesEnd {
+    /// The packet left the network from this switch, at this host port, with this VLAN, which is the rewritten one.
+    Left(SwitchId, Port, Vlan),
+    /// This switch discarded the packet.
+    Dropped(SwitchId),
+    /// The packet came to this switch again: the last place is there, and an earlier one.
+    Again(SwitchId),
 }
 
 /// How a packet's trace ends, or that it goes on.

@@ -1,76 +1,86 @@
-//! The room for the stops of a path.
-ghost use Rattle.std.specs.Prelude.{◌≡◌, ◌<◌, ◌≤◌, ◌++◌, ◌∷◌, [], length, IfOk};
+//! The room for the places of a path.
+ghost use Rattle.std.specs.Prelude.{◌≡◌, ◌<◌, ◌≤◌, ◌++◌, ◌∷◌, [], length, map, IfOk};
 ghost use Rattle.net_base.specs.Places.{stop_of};
 ghost use Rattle.topology.specs.Networks.{switch_count};
 ghost use Rattle.path_walk.specs.Walked.{is_visited};
 
-use net_base::{Memory, Place, Stop};
+use net_base::{Memory, Place, Stop, SwitchSet};
 use std::alloc::Global;
 use std::marker::Model;
 use topology::Net;
 
-/// Room for the stops of one path of a network: one more than it has switches.
+/// Room for the places of one path of a network and their stops: one more than it has switches.
 #[derive(Drop)]
 pub struct PathRoom {
+    places: Vec<Place>,
     stops: Vec<Stop>,
-    visited: Vec<bool>,
+    switches: u32,
+    visited: SwitchSet,
 }
 
 impl Model for PathRoom {
-    ghost use Rattle.std.specs.Prelude.{vec_capacity, length};
     ghost use Rattle.path_walk.specs.Walked.{RoomState, IsRoom};
 
     ghost Value = { RoomState };
 
-    ghost view = { λ r. record { stops = r.stops.items; switches = length r.visited.items } };
+    ghost view = { λ r. record { places = r.places.items; switches = r.switches } };
 
-    ghost invariant = { λ r. IsRoom r.stops.items (vec_capacity r.stops) r.visited.items };
+    ghost invariant = { λ r. IsRoom r.places r.stops r.switches r.visited };
 }
 
 impl PathRoom {
     /// Room for the paths of a network, and of each other with as many switches.
     pub fn make(alloc: Global, net: &Net) -> Result<PathRoom, Memory>
         ensures switches { IfOk result (λ room. room.switches ≡ switch_count net.now) }
-        ensures empty { IfOk result (λ room. room.stops ≡ []) }
+        ensures empty { IfOk result (λ room. room.places ≡ []) }
     {
-        let count = net.switches() as usize;
-        let stops = Vec::with_capacity(alloc, count + 1)?;
-        let visited = vec![in alloc; false; count]?;
-        Ok(PathRoom { stops, visited })
+        let switches = net.switches();
+        let most = switches as usize + 1;
+        Ok(PathRoom {
+            places: Vec::with_capacity(alloc, most)?,
+            stops: Vec::with_capacity(alloc, most)?,
+            switches,
+            visited: SwitchSet::none(),
+        })
     }
 
-    /// The stops of the path that was walked last, in order.
+    /// The places of the path that was followed last, in order.
+    pub fn places(&self) -> &[Place]
+        ensures { result.now ≡ self.now.places }
+    {
+        &self.places
+    }
+
+    /// The stops of the path that was followed last, in order.
     pub fn stops(&self) -> &[Stop]
-        ensures { result.now ≡ self.now.stops }
+        ensures { result.now ≡ map stop_of self.now.places }
     {
         &self.stops
     }
 
-    /// Forgets the stops.
+    /// Forgets the places.
     pub(crate) fn clear(&mut self)
-        ensures { self.new ≡ record self.old { stops = [] } }
+        ensures { self.new ≡ record self.old { places = [] } }
     {
+        self.places.clear();
         self.stops.clear();
-        self.visited.fill(false);
+        self.visited = SwitchSet::none();
     }
 
-    /// Adds the stop of a place, and tells whether its switch was visited before.
+    /// Adds a place, and tells whether its switch was visited before.
     pub(crate) fn visit(&mut self, place: Place) -> bool
         requires switch { place.switch.0 < self.old.switches }
-        requires room { length self.old.stops ≤ self.old.switches }
-        ensures seen { result ≡ is_visited self.old.stops place.switch }
-        ensures added { self.new ≡ record self.old
-            { stops = self.old.stops ++ stop_of place ∷ [] } }
+        requires room { length self.old.places ≤ self.old.switches }
+        ensures seen { result ≡ is_visited self.old.places place.switch }
+        ensures added { self.new ≡ record self.old { places = self.old.places ++ place ∷ [] } }
     {
-        let seen = self.visited[place.switch.0 as usize];
-        self.visited[place.switch.0 as usize] = true;
-        let stop = Stop {
+        let seen = self.visited.has(place.switch);
+        self.visited.put(place.switch);
+        self.places.push_reserved(place);
+        self.stops.push_reserved(Stop {
             switch: place.switch,
             port: place.port,
-        };
-        if self.stops.push(stop).is_err() {
-            unreachable!();
-        }
+        });
         seen
     }
 }

@@ -3,8 +3,8 @@ use Rattle.std.specs.Prelude.{ℕ, Bool, true, false, List, ◌++◌, length, fl
 use Rattle.net_base.specs.Text.{vlan_text}
 use Rattle.net_base.specs.declared.ids.Stop.{Stop}
 use Rattle.topology.specs.Networks.{Network}
-use Rattle.path_places.specs.declared.PlacesEnd.{PlacesEnd}
-use Rattle.path_places.specs.declared.PlacesEnd.TheVariants.{Left, Dropped, Again}
+use Rattle.path_walk.specs.declared.PlacesEnd.{PlacesEnd}
+use Rattle.path_walk.specs.declared.PlacesEnd.TheVariants.{Left, Dropped, Again}
 use Rattle.command_base.specs.Lines.{switch_name, class_text, how_text}
 use Rattle.paths_command.specs.declared.marks.Counts.{Counts}
 use Rattle.paths_command.specs.declared.marks.Mark.{Mark}

@@ -32,7 +32,6 @@ pub record IsJudgeable (judged : code.JudgedConfig) : Type 0 where
 -- the rooms were made for as many switches, and what they keep of chains holds of these duties
 pub record AreRooms (net : Network) (duties : ClassDuties) (rooms : room.Rooms) : Type 0 where
   pub path : rooms.path.switches ≡ switch_count net
-  pub places : rooms.places.switches ≡ switch_count net
   pub met : IsMetPath duties rooms.met
 
 -- the lines of the first classes, and how many of them have each kind of mark

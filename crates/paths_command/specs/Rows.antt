@@ -7,8 +7,8 @@ use Rattle.topology.specs.Networks.{Network}
 use Rattle.flow_rules.specs.declared.rules.Rule.{Rule}
 use Rattle.dest_classes.specs.Classes.{IsClass}
 use Rattle.dest_classes.specs.declared.Class.{Class}
-use Rattle.path_places.specs.Followed.{PathEndsAs}
-use Rattle.path_places.specs.declared.PlacesEnd.{PlacesEnd}
+use Rattle.path_walk.specs.Walked.{PathEndsAs}
+use Rattle.path_walk.specs.declared.PlacesEnd.{PlacesEnd}
 use Rattle.demands.specs.Duties.{DemandView, demand_covers, duties_of}
 use Rattle.demands.specs.Good.{HasGoodPath}
 use Rattle.config_check.specs.Broken.{BreaksSo}

@@ -19,8 +19,7 @@ use demands::{Demands, Duties};
 use dest_classes::{ClassFault, ClassMap, NumberedClass, class_map};
 use flow_rules::Config;
 use net_base::Memory;
-use path_places::{PlaceRoom, follow};
-use path_walk::PathRoom;
+use path_walk::{PathRoom, follow};
 use std::alloc::Global;
 use topology::Net;
 
@@ -37,7 +36,6 @@ pub struct JudgedConfig<'a> {
 #[derive(Drop)]
 pub struct Rooms {
     pub path: PathRoom,
-    pub places: PlaceRoom,
     pub met: MetPath,
 }
 
@@ -101,11 +99,11 @@ fn list_class(
         judged.config,
         class.entry,
         class.first,
-        &mut rooms.places,
+        &mut rooms.path,
     );
     let row = Row {
         class,
-        places: rooms.places.places(),
+        places: rooms.path.places(),
         end,
         mark,
     };
@@ -185,7 +183,6 @@ fn list_judged(
 {
     let mut rooms = Rooms {
         path: PathRoom::make(alloc, judged.net)?,
-        places: PlaceRoom::make(alloc, judged.net)?,
         met: MetPath::none(),
     };
     let reply = list_in(alloc, judged, classes, &mut rooms);

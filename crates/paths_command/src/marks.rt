@@ -6,7 +6,7 @@ ghost use Rattle.paths_command.specs.Lines.{is_good, is_free, is_break};
 use config_check::How;
 use dest_classes::Class;
 use net_base::Place;
-use path_places::PlacesEnd;
+use path_walk::PlacesEnd;
 
 /// The verdict on the path of a class, judged alone.
 #[derive(Clone, Copy)]

@@ -16,9 +16,9 @@ use Rattle.flow_rules.specs.declared.rules.VlanTest.TheVariants as test
 use Rattle.flow_rules.specs.declared.rules.Action.{Action}
 use Rattle.flow_rules.specs.declared.rules.Action.TheVariants.{Discard, Out}
 use Rattle.path_walk.specs.Outcomes.{header_at}
-use Rattle.path_places.specs.Followed.{IsFollowed, PathEndsAs}
-use Rattle.path_places.specs.declared.PlacesEnd.{PlacesEnd}
-use Rattle.path_places.specs.declared.PlacesEnd.TheVariants.{Left, Dropped, Again}
+use Rattle.path_walk.specs.Walked.{IsFollowed, PathEndsAs}
+use Rattle.path_walk.specs.declared.PlacesEnd.{PlacesEnd}
+use Rattle.path_walk.specs.declared.PlacesEnd.TheVariants.{Left, Dropped, Again}
 use Rattle.config_files.specs.Configuration.{configuration_in}
 use Rattle.command_base.specs.declared.kinds.FileKind.TheVariants as kind
 use Rattle.command_base.specs.declared.status.Status.TheVariants as status

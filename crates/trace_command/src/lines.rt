@@ -12,7 +12,7 @@ use crate::names::EntryName;
 use command_base::{add_made, add_word, switch_name};
 use flow_rules::{Action, Config, Rule, VlanTest};
 use net_base::{Memory, Place, Port, SwitchId, prefix_string, vlan_text};
-use path_places::PlacesEnd;
+use path_walk::PlacesEnd;
 use std::alloc::Global;
 use topology::Net;
 

@@ -13,7 +13,7 @@ use crate::names::{EntryName, TraceNames};
 use command_base::{Reply, Status};
 use flow_rules::Config;
 use net_base::{Memory, Place};
-use path_places::{PlaceRoom, follow};
+use path_walk::{PathRoom, follow};
 use std::alloc::Global;
 use topology::Net;
 
@@ -56,7 +56,7 @@ fn path_text(
     requires entry { entry.switch.0 < switch_count net.now }
     ensures { IfOk result (λ t. IsPathText net.now (rules_of_all config.now) entry dst t.items) }
 {
-    let mut room = PlaceRoom::make(alloc, net)?;
+    let mut room = PathRoom::make(alloc, net)?;
     let end = follow(net, config, entry, dst, &mut room);
     let text = trace_text(alloc, net, config, dst, room.places(), end);
     drop(room);

@@ -1,6 +1,7 @@
-use Rattle.std.proofs.Common.{List, subst}
+use Rattle.std.proofs.Common.{List, map, subst}
 use Rattle.std.specs.List.{AllByRecursion}
 use Rattle.net_base.specs.Members.{IsSubsequence}
+use Rattle.net_base.specs.Places.{stop_of}
 use Rattle.net_base.specs.declared.ids.Stop.{Stop}
 use Rattle.flow_rules.specs.Tables.{rules_of_all}
 use Rattle.demands.specs.Duties.{duties_of}
@@ -17,4 +18,4 @@ returns-in_err-missed-in-Left-clause-none c =
     let met = subst (λ (stops : List Stop). AllByRecursion (λ chain. IsSubsequence chain (switches_of stops)) duties.chains) c.stops.ensures
     (c.in_err-missed-in-Left.ensures.none c.args.numbered.class c.requires.class) in
     none_holds c.from_residual.result (HasGoodPath c.args.net.now (rules_of_all c.args.config.now) c.args.duties.now.demands entry first)
-    (good_left c.args.net.now (rules_of_all c.args.config.now) c.args.duties.now.demands entry first c.walk.new.room.stops c.in-Left.field-0 c.in-Left.field-1 vlan so met)
+    (good_left c.args.net.now (rules_of_all c.args.config.now) c.args.duties.now.demands entry first (map stop_of c.walk.new.room.places) c.in-Left.field-0 c.in-Left.field-1 vlan so met)

@@ -4,7 +4,7 @@ use Rattle.net_base.specs.Places.{stop_of}
 use Rattle.flow_rules.specs.Tables.{rules_of_all}
 use Rattle.dest_classes.specs.Classes.{ClassList, IsClass, class_count}
 use Rattle.dest_classes.proofs.MapLaws.{number_fits}
-use Rattle.path_places.specs.Followed.{PathEndsAs}
+use Rattle.path_walk.specs.Walked.{PathEndsAs}
 use Rattle.command_base.specs.Judgements.{most_classes}
 use Rattle.config_command.specs.Configs.{config_count}
 use Rattle.config_command.specs.Verdicts.{classes_under}
