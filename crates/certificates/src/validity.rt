@@ -13,7 +13,7 @@ use crate::{
 };
 use acyclic_numbering::Numbering;
 use flow_rules::{Action, Rewrite, Rule, VlanTest};
-use net_base::{Port, Prefix, Vlan};
+use net_base::{MAX_PORT, Port, Prefix, Vlan};
 use topology::{Net, is_vlan_id};
 use update_model::{Change, Rounds};
 use waypoint_evidence::Before;
@@ -29,7 +29,7 @@ const MAX_CLASS: u32 = 8191;
 fn is_port_number(port: u16) -> bool
     ensures { IsTrue result ↔ IsPortNumber port }
 {
-    1 <= port && port <= 65279
+    1 <= port && u64::from(port) <= MAX_PORT
 }
 
 fn is_vlan(vlan: Vlan) -> bool

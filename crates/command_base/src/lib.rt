@@ -19,9 +19,7 @@ pub use crate::exit::Exit;
 pub use crate::faults::Fault;
 pub use crate::files::fetch_file;
 pub use crate::kinds::FileKind;
-pub use crate::lines::{
-    add_made, add_word, bad_line, class_text, classes_line, how_text, switch_name,
-};
+pub use crate::lines::{bad_line, class_text, classes_line, how_text, switch_name};
 pub use crate::names::{PlanNames, UpdateNames, plan_names, update_names};
 pub use crate::plan_files::{PlanFiles, read_plan_files};
 pub use crate::readings::{

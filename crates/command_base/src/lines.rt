@@ -1,5 +1,5 @@
 //! The lines that the program prints.
-ghost use Rattle.std.specs.Prelude.{◌≡◌, ◌++◌, IfOk, OnOk};
+ghost use Rattle.std.specs.Prelude.{◌≡◌, IfOk};
 ghost use Rattle.command_base.specs.Lines as lines;
 ghost use Rattle.command_base.specs.Replies.{words_of};
 
@@ -10,23 +10,6 @@ use dest_classes::Class;
 use net_base::{Memory, SwitchId, addr_text, vlan_text};
 use std::alloc::Global;
 use topology::Net;
-
-/// Adds a word to a text.
-pub fn add_word(text: &mut Vec<u8>, word: &str) -> Result<(), Memory>
-    ensures { OnOk result (text.new.items ≡ text.old.items ++ word.now) }
-{
-    text.extend_from_slice(word.as_bytes())?;
-    Ok(())
-}
-
-/// Adds a text that was made for it.
-pub fn add_made(text: &mut Vec<u8>, made: Vec<u8>) -> Result<(), Memory>
-    ensures { OnOk result (text.new.items ≡ text.old.items ++ made.items) }
-{
-    let added = text.extend_from_slice(&made);
-    drop(made);
-    Ok(added?)
-}
 
 /// The line on a file that isn't read.
 pub fn bad_line(alloc: Global, kind: FileKind, fault: Fault) -> Result<Vec<u8>, Memory>

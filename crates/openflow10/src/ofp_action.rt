@@ -4,7 +4,7 @@ ghost use Rattle.openflow10.specs.Actions.{action_at, actions_at, action_in, out
 
 use crate::numbers::u16_at;
 use flow_rules::{Action, Rewrite};
-use net_base::Port;
+use net_base::{MAX_PORT, Port};
 use topology::is_vlan_id;
 
 /// OFPAT_OUTPUT: sends to a port.
@@ -33,7 +33,7 @@ pub struct ActionFields {
 pub fn is_port(number: u16) -> bool
     ensures { result ≡ is_port number }
 {
-    1 <= number && number <= 65279
+    1 <= number && u64::from(number) <= MAX_PORT
 }
 
 impl ActionFields {

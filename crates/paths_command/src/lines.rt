@@ -6,9 +6,10 @@ ghost use Rattle.paths_command.specs.Rows.{row_seen};
 ghost use Rattle.paths_command.specs.Lines as lines;
 
 use crate::marks::{Counts, Mark, Row};
-use command_base::{add_made, add_word, class_text, how_text, switch_name};
+use command_base::{class_text, how_text, switch_name};
 use net_base::{Memory, Place, Port, SwitchId, Vlan, vlan_text};
 use path_walk::PlacesEnd;
+use text_lines::{add_made, add_word};
 use topology::Net;
 
 /// Adds a port of a switch: `SWITCH:PORT`.

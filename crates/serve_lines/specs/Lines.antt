@@ -4,8 +4,8 @@ use Rattle.std.specs.Str.{bytes_eq, is_utf8}
 use Rattle.net_base.specs.Lines.{lines_of, is_comment}
 use Rattle.net_base.specs.Reading.{◌>>=◌, need}
 use Rattle.net_base.specs.Text.{cut_first}
+use Rattle.text_lines.specs.Words.{bytes_in}
 use Rattle.topology.specs.Networks.{Network, switch_count, switch_named}
-use Rattle.driver_input.specs.Lines.{bytes_in}
 use Rattle.serve_lines.specs.declared.fault.LineFault.{LineFault}
 use Rattle.serve_lines.specs.declared.fault.LineFault.TheVariants.{Bad}
 use Rattle.serve_lines.specs.declared.line.ServeLine.{ServeLine}

@@ -10,6 +10,6 @@ mod read;
 
 pub use blocks::{Outcome, block_text};
 pub use fault::LineFault;
-pub use line::{Piece, ServeLine};
+pub use line::ServeLine;
 pub use open_line::OpenLine;
 pub use read::read_line;

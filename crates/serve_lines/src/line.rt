@@ -1,38 +1,6 @@
 //! What a line asks for.
-ghost use Rattle.std.specs.Prelude.{◌≡◌};
-
+use driver_input::Piece;
 use net_base::SwitchId;
-use std::marker::Model;
-
-/// A piece of the bytes that a switch sends.
-#[derive(Drop)]
-pub struct Piece {
-    bytes: Vec<u8>,
-}
-
-impl Model for Piece {
-    ghost use Rattle.std.specs.Prelude.{List, ℕ};
-
-    ghost Value = { List ℕ };
-
-    ghost view = { λ p. p.bytes.items };
-}
-
-impl Piece {
-    /// A piece of these bytes.
-    pub(crate) fn make(bytes: Vec<u8>) -> Piece
-        ensures { result ≡ bytes.items }
-    {
-        Piece { bytes }
-    }
-
-    /// The bytes, in the order in which they were sent.
-    pub fn bytes(&self) -> &[u8]
-        ensures { result.now ≡ self.now }
-    {
-        &self.bytes
-    }
-}
 
 /// What a line asks for.
 #[derive(Drop)]

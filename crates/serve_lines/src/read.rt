@@ -1,32 +1,18 @@
 //! What bytes ask for as a line: `start`, `back`, `reopen` with the name of a switch, `feed` with a name and bytes in
 //! hexadecimal digits, or nothing.
-ghost use Rattle.std.specs.Prelude.{◌≡◌, IfOk};
-ghost use Rattle.net_base.specs.Reading.{Gives, need};
-ghost use Rattle.driver_input.specs.Lines.{bytes_in};
-ghost use Rattle.serve_lines.specs.declared.fault.LineFault.TheVariants.{Bad, Memory};
+ghost use Rattle.std.specs.Prelude.{IfOk};
+ghost use Rattle.net_base.specs.Reading.{Gives};
+ghost use Rattle.serve_lines.specs.declared.fault.LineFault.TheVariants.{Memory};
 ghost use Rattle.serve_lines.specs.Lines as lines;
 
 use crate::fault::LineFault;
-use crate::line::{Piece, ServeLine};
+use crate::line::ServeLine;
 use crate::open_line::MOST_BYTES;
-use hex::FromHexError;
+use driver_input::Piece;
 use net_base::{cut_first, is_comment};
 use std::alloc::Global;
+use text_lines::read_digits;
 use topology::Net;
-
-/// Reads pairs of hexadecimal digits, at least one.
-fn read_piece(alloc: Global, digits: &str) -> Result<Piece, LineFault>
-    ensures { Gives Memory (λ p. p) result (need (bytes_in digits.now) Bad) }
-{
-    if digits.is_empty() {
-        return Err(LineFault::Bad);
-    }
-    match hex::decode(alloc, digits) {
-        Ok(bytes) => Ok(Piece::make(bytes)),
-        Err(FromHexError::OutOfMemory) => Err(LineFault::Memory),
-        Err(_) => Err(LineFault::Bad),
-    }
-}
 
 /// Reads a switch's name and a piece.
 #[tactic(auto, unfolding(crate::specs::Lines::fed_in))]
@@ -36,8 +22,8 @@ fn read_fed(alloc: Global, net: &Net, text: &str) -> Result<ServeLine, LineFault
 {
     let (name, digits) = cut_first(text, ' ').ok_or(LineFault::Bad)?;
     let switch = net.find(name).ok_or(LineFault::Bad)?;
-    let piece = read_piece(alloc, digits)?;
-    Ok(ServeLine::Feed(switch, piece))
+    let bytes = read_digits(alloc, digits)?.ok_or(LineFault::Bad)?;
+    Ok(ServeLine::Feed(switch, Piece::make(bytes)))
 }
 
 /// Reads a switch's name.

@@ -10,7 +10,7 @@ use Rattle.net_base.specs.Reading.{◌>>=◌, need}
 use Rattle.net_base.specs.Text.{cut_first}
 use Rattle.topology.specs.Networks.{Network, switch_named}
 use Rattle.update_model.specs.declared.Change.{Change}
-use Rattle.driver_input.specs.Lines.{bytes_in}
+use Rattle.text_lines.specs.Words.{bytes_in}
 use Rattle.two_way_driver.specs.Calls.{DriverView, silent_view, start_fault, back_fault, started_view, turned_view}
 use Rattle.two_way_driver.specs.Laws.{Call, IsCall, after_call, after_calls}
 use Rattle.two_way_driver.specs.Laws as call

@@ -5,7 +5,7 @@ ghost use Rattle.topology_files.specs.Faults.{of_json, fault_number, fault_name,
 
 use flat_json::JsonFault;
 use net_base::Field;
-use std::alloc::{AllocError, AllocFailed};
+use std::alloc::AllocError;
 use std::fmt;
 use thiserror::Error;
 
@@ -138,14 +138,6 @@ impl From<AllocError> for NetFault {
     ghost from_gives = { λ _ e. e ≡ Memory };
 
     fn from(_: AllocError) -> NetFault {
-        NetFault::Memory
-    }
-}
-
-impl<T: Drop> From<AllocFailed<T>> for NetFault {
-    ghost from_gives = { λ _ e. e ≡ Memory };
-
-    fn from(_: AllocFailed<T>) -> NetFault {
         NetFault::Memory
     }
 }

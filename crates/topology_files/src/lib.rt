@@ -7,3 +7,4 @@ mod small;
 
 pub use fault::NetFault;
 pub use read::read_net;
+pub use small::is_name;

@@ -29,8 +29,8 @@ fn has_name_bytes(name: &str) -> bool
     name.as_bytes().iter().all(|b| is_name_byte(*b))
 }
 
-/// Whether the text is a name: 1 to 32 ASCII letters, digits, `-` and `_`.
-pub(crate) fn is_name(name: &str) -> bool
+/// Whether the text is of the form that names of switches have: 1 to 32 ASCII letters, digits, `-` and `_`.
+pub fn is_name(name: &str) -> bool
     ensures { result ≡ networks.is_name name.now }
 {
     1 <= name.len() && name.len() <= 32 && has_name_bytes(name)

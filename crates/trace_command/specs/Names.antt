@@ -1,17 +1,12 @@
 -- The words of `trace`.
-use Rattle.std.specs.Prelude.{ℕ, ◌&&◌, nat_le, List, [], ◌∷◌, Option, None, Some, option_and_then, codes, if◌then◌else◌}
-use Rattle.std.specs.Str.{bytes_eq}
+use Rattle.std.specs.Prelude.{ℕ, ◌&&◌, nat_le, List, [], ◌∷◌, Option, None, Some, if◌then◌else◌}
 use Rattle.net_base.specs.declared.ids.Port.{Port}
 use Rattle.net_base.specs.declared.ids.Vlan.{Vlan}
-use Rattle.net_base.specs.declared.ids.Vlan.TheVariants as vlan
 use Rattle.net_base.specs.Text.{cut_last, decimal_in, address_in}
+use Rattle.text_lines.specs.Words.{◌>>=◌, vlan_in}
 use Rattle.topology.specs.Networks.{is_name}
 use Rattle.trace_command.specs.declared.names.TraceNames as code
 use Rattle.trace_command.specs.declared.names.EntryName as entry_code
-
-infixl 10 ◌>>=◌
-abbrev ◌>>=◌ : {A B : Type 0} → Option A → (A → Option B) → Option B
-o >>= f = option_and_then f o
 
 -- a port that packets may come in by, by the name of its switch, and a VLAN
 pub record EntryName : Type 0 where
@@ -25,16 +20,6 @@ pub record TraceNames : Type 0 where
   pub config : List ℕ
   pub entry : EntryName
   pub dst : ℕ
-
--- an id from 1 to 4094
-unfoldable pub id_in : List ℕ → Option Vlan
-id_in text = do
-  id ← decimal_in text 4094
-  if nat_le 1 id then Some (vlan.Id id) else None
-
--- a VLAN: `untagged`, or its id
-abbrev pub vlan_in : List ℕ → Option Vlan
-vlan_in text = if bytes_eq text (codes "untagged") then Some vlan.Untagged else id_in text
 
 -- `NAME:PORT` and a VLAN, NAME of the form that names of switches have, PORT from 1 to 65279
 unfoldable pub entry_in : List ℕ → List ℕ → Option EntryName

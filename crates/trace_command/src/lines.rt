@@ -9,11 +9,12 @@ ghost use Rattle.trace_command.specs.Names.{entry_seen};
 ghost use Rattle.trace_command.specs.Traced as texts;
 
 use crate::names::EntryName;
-use command_base::{add_made, add_word, switch_name};
+use command_base::switch_name;
 use flow_rules::{Action, Config, Rule, VlanTest};
 use net_base::{Memory, Place, Port, SwitchId, prefix_string, vlan_text};
 use path_walk::PlacesEnd;
 use std::alloc::Global;
+use text_lines::{add_made, add_word};
 use topology::Net;
 
 /// Adds a named entry: `NAME:PORT VLAN`.
