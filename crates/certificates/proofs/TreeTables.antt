@@ -1,18 +1,16 @@
 -- Tables of rules by prefix alone, with the keys of the new table: what a lookup in them and in their mixtures gives.
-use Rattle.std.proofs.Common.{◌≡◌, ◌≢◌, ◌⊎◌, ◌&&◌, ℕ, ◌≤◌, true, cond, List, [], ◌∷◌, refl, sym, ◌∙◌, subst, ap, inl, inr}
-use Rattle.std.specs.Prelude.{Option, None, find}
+use Rattle.std.proofs.Common.{◌≡◌, ◌≢◌, ◌⊎◌, ◌&&◌, ◌≤◌, true, cond, List, [], ◌∷◌, refl, sym, ◌∙◌, subst, ap, inl, inr}
+use Rattle.std.specs.Prelude.{None, find}
 use Rattle.std.specs.Option.{option_map_or}
 use Rattle.std.specs.List.{AllByRecursion}
 use Rattle.net_base.specs.Blocks.{Block, in_block}
 use Rattle.net_base.specs.Members.{IsIn, IsSameSet}
 use Rattle.net_base.proofs.MemberLaws.{in_map, in_from_map, in_filter, in_from_filter, each_at, same_filter}
 use Rattle.net_base.specs.declared.ids.SwitchId.{SwitchId}
-use Rattle.net_base.specs.declared.ids.Port.{Port}
 use Rattle.flow_rules.specs.Patterns.{Header, covers, admits_port, admits_vlan}
 use Rattle.flow_rules.specs.Tables.{keys_of, covering_rules, lookup, IsClear, IsTable}
-use Rattle.flow_rules.proofs.KeyLaws.{cases_key}
+use Rattle.flow_rules.proofs.KeyLaws.{cases_key, key_same}
 use Rattle.flow_rules.proofs.LookupLaws.{IsTop, is_top, top_of, matched_is_top, matched_none, lookup_by_set}
-use Rattle.flow_rules.specs.declared.rules.VlanTest.{VlanTest}
 use Rattle.flow_rules.specs.declared.rules.VlanTest.TheVariants as test
 use Rattle.flow_rules.specs.declared.rules.Key.{Key}
 use Rattle.flow_rules.specs.declared.rules.Rule.{Rule}
@@ -38,15 +36,9 @@ unique_in_table (r ∷ rules) once a b (inr i) (inr j) e = unique_in_table rules
 abbrev IsAlone : Key → Type 0
 IsAlone k = (k.pattern.in_port ≡ None) × (k.pattern.vlan ≡ test.Any)
 
-abbrev key_of : ℕ → Option Port → VlanTest → Block → Key
-key_of priority in_port vlan dst = record { priority = priority; pattern = record { in_port = in_port; vlan = vlan; dst = dst } }
-
 same_key_from : (a b : Key) → IsAlone a → IsAlone b → a.priority ≡ b.priority → a.pattern.dst ≡ b.pattern.dst → a ≡ b
 same_key_from a b x y priority dst =
-    ap (λ n. key_of n a.pattern.in_port a.pattern.vlan a.pattern.dst) priority
-    ∙ ap (λ p. key_of b.priority p a.pattern.vlan a.pattern.dst) (x.0 ∙ sym y.0)
-    ∙ ap (λ v. key_of b.priority b.pattern.in_port v a.pattern.dst) (x.1 ∙ sym y.1)
-    ∙ ap (λ d. key_of b.priority b.pattern.in_port b.pattern.vlan d) dst
+    key_same a b priority (x.0 ∙ sym y.0) (x.1 ∙ sym y.1) (ap (λ (d : Block). d.base) dst) (ap (λ (d : Block). d.len) dst)
 
 covers_alone : (k : Key) (h : Header) → IsAlone k → covers k.pattern h ≡ in_block k.pattern.dst h.dst
 covers_alone k h alone =

@@ -1,5 +1,5 @@
 -- A rule that is written is read again.
-use Rattle.std.proofs.Common.{◌≡◌, ℕ, ◌<◌, true, false, List, [], length, get_or, codes, Option, Some, None, Ok, refl, sym, ap, ◌∙◌}
+use Rattle.std.proofs.Common.{◌≡◌, ℕ, ◌<◌, true, false, List, [], get_or, codes, Option, Some, None, Ok, refl, sym, ap, ◌∙◌}
 use Rattle.std.specs.Str.{bytes_eq}
 use Rattle.std.proofs.lemmas.Bool.{le-leb, lt-ltb, false_from_ne_true}
 use Rattle.serde_json.specs.Find.{get_member}
@@ -9,10 +9,10 @@ use Rattle.net_base.specs.declared.field.Field.TheVariants as field
 use Rattle.net_base.specs.declared.ids.Port.{Port}
 use Rattle.net_base.specs.declared.ids.SwitchId.{SwitchId}
 use Rattle.net_base.proofs.Prefixes.{prefix_in-text}
-use Rattle.topology.specs.Networks.{Network, switch_count, switch_named, IsUsed, is_used, is_tag, used_ports}
+use Rattle.topology.specs.Networks.{Network, switch_count, IsUsed, is_used, is_tag, used_ports}
 use Rattle.topology.proofs.LinkLaws.{any_from_in}
 use Rattle.topology.proofs.EntryLaws.{tag_found}
-use Rattle.topology.proofs.NamedLaws.{named_at}
+use Rattle.topology.proofs.NamedLaws.{named_again}
 use Rattle.flow_rules.specs.declared.rules.VlanTest.{VlanTest}
 use Rattle.flow_rules.specs.declared.rules.VlanTest.TheVariants as test
 use Rattle.flow_rules.specs.declared.rules.Action.{Action}
@@ -98,14 +98,11 @@ rule_again net place s r user =
 
 -- ---- its switch
 
-name_read : (net : Network) (n : ℕ) → IsDistinct net.names → n < switch_count net → switch_named net.names (get_or net.names n []) ≡ Some n
-name_read net n distinct lt = rw (named_at net.names n distinct lt, lt-ltb n (length net.names) lt) refl
-
 pub switch_again : (net : Network) (place : ℕ) (s : SwitchId) (r : Rule) → IsDistinct net.names → s.0 < switch_count net → place < 2048 → switch_in place net (rule_tree net s r) ≡ Ok s
 unfolding switch_in
 switch_again net place s r distinct known few =
     rw (
       lt-ltb place 2048 few,
       fixed_again net s r (codes "switch") refl refl,
-      name_read net s.0 distinct known,
+      named_again net.names s.0 distinct known,
     ) refl

@@ -1,12 +1,10 @@
 -- Tables that were read are a user configuration.
 use Rattle.std.proofs.Common.{◌≡◌, ◌⊎◌, ℕ, zero, suc, ◌+◌, ◌≤◌, ◌<◌, true, false, Result, Ok, Err, List, [], ◌∷◌, ◌++◌, length, replicate, set, get_or, mul-zero, refl, sym, ◌∙◌, ap, subst, inl, inr, arith}
 use Rattle.std.specs.Prelude.{◌==◌, Option, Some, None, not, nat_lt, find, cond, codes, sum_by, IfOk}
-use Rattle.std.specs.List.{list_any, range_with_len, position_or_len, AllByRecursion}
+use Rattle.std.specs.List.{list_any, range_with_len, AllByRecursion}
 use Rattle.std.proofs.lemmas.Bool.{and_from, eq-eqb, ltb-true, lt-ltb, cases_lt, not-true, both_ways}
-use Rattle.std.proofs.lemmas.List.{length-set, length-append, length-replicate}
+use Rattle.std.proofs.lemmas.List.{length-set, length_push, length-replicate}
 use Rattle.std.proofs.lemmas.List.Folds.{sum_by-replicate}
-use Rattle.std.proofs.lemmas.Option.{cond_some}
-use Rattle.std.specs.Str.{bytes_eq}
 use Rattle.std.proofs.lemmas.List.Sums.{sum_by-set}
 use Rattle.serde_json.specs.Data.{Data}
 use Rattle.net_base.specs.Members.{IsIn}
@@ -17,9 +15,10 @@ use Rattle.net_base.specs.declared.field.Field.TheVariants as field
 use Rattle.net_base.proofs.Turns.{bind_ok, ok_is}
 use Rattle.net_base.proofs.ListLaws.{any_in}
 use Rattle.topology.specs.Networks.{Network, switch_count, switch_named, capacity_of}
+use Rattle.topology.proofs.NamedLaws.{named_within}
 use Rattle.flow_rules.specs.Patterns.{Header, covers, key_eq}
 use Rattle.flow_rules.specs.Overlaps.{keys_clash, patterns_meet}
-use Rattle.flow_rules.specs.Tables.{IsTable, IsClear, rules_at, keys_of}
+use Rattle.flow_rules.specs.Tables.{IsTable, IsClear, rules_at}
 use Rattle.flow_rules.specs.declared.rules.Rule.{Rule}
 use Rattle.flow_rules.proofs.OverlapLaws.{meet_out}
 use Rattle.flow_rules.proofs.TableLaws.{table_push, key_found}
@@ -48,7 +47,7 @@ pub record AreUserTables (net : Network) (n : ℕ) (tables : List (List Rule)) :
 
 -- ---- one rule more in a table
 
-pub all_push : (P : Rule → Type 0) (rules : List Rule) (r : Rule) → AllByRecursion P rules → P r → AllByRecursion P (rules ++ r ∷ [])
+all_push : (P : Rule → Type 0) (rules : List Rule) (r : Rule) → AllByRecursion P rules → P r → AllByRecursion P (rules ++ r ∷ [])
 all_push P [] r all new = (new, tt)
 all_push P (x ∷ rules) r all new = (all.0, all_push P rules r all.1 new)
 
@@ -63,7 +62,7 @@ module _ (rules : List Rule) (r : Rule) (apart : list_any (λ q. keys_clash q.ke
       both_ways (list_any (λ x. keys_clash x.key r.key) rules) apart (any_in (λ x. keys_clash x.key r.key) q rules i
       (and_from (q.key.priority == r.key.priority) (patterns_meet q.key.pattern r.key.pattern) (eq-eqb q.key.priority r.key.priority same) (meet_out q.key.pattern r.key.pattern h first second)))
 
-  pub clear_push : IsClear rules → IsClear (rules ++ r ∷ [])
+  clear_push : IsClear rules → IsClear (rules ++ r ∷ [])
   clear_push clear h a b i j first second same =
       elim (in_push a rules r i) [
         | inl k ↦ elim (in_push b rules r j) [
@@ -76,6 +75,15 @@ module _ (rules : List Rule) (r : Rule) (apart : list_any (λ q. keys_clash q.ke
         ]
       ]
 
+-- a rule with a new key that clashes with no other
+pub user_push : (net : Network) (s : ℕ) (rules : List Rule) (r : Rule) → IsUserTable net s rules → IsUserRule net (record { 0 = s }) r → list_any (λ q. key_eq q.key r.key) rules ≡ false
+    → list_any (λ q. keys_clash q.key r.key) rules ≡ false → IsUserTable net s (rules ++ r ∷ [])
+user_push net s rules r table user fresh apart = record {
+  distinct = table_push rules r table.distinct (λ i. both_ways (list_any (λ q. key_eq q.key r.key) rules) fresh ((key_found r.key rules).1 i));
+  clear = clear_push rules r apart table.clear;
+  rules = all_push (IsUserRule net (record { 0 = s })) rules r table.rules user;
+}
+
 with_new : (net : Network) (place : ℕ) (s : ℕ) (rules new : List Rule) (r : Rule) → IsUserTable net s rules → IsUserRule net (record { 0 = s }) r → rules_with place rules r ≡ Ok new
     → IsUserTable net s new × (length new ≡ suc (length rules))
 unfolding rules_with
@@ -83,24 +91,13 @@ with_new net place s rules new r table user e =
     let more : List Rule = rules ++ r ∷ [] in
     let (fresh, e1) = check_passed (not (list_any (λ q. key_eq q.key r.key) rules)) (KeyTwice place) (check (not (list_any (λ q. keys_clash q.key r.key) rules)) (Overlap place) >>= λ _. Ok more) new e in
     let (apart, e2) = check_passed (not (list_any (λ q. keys_clash q.key r.key) rules)) (Overlap place) (Ok more) new e1 in
-    let absent : ¬ IsIn r.key (keys_of rules) = λ i. both_ways (list_any (λ q. key_eq q.key r.key) rules) (not-true (list_any (λ q. key_eq q.key r.key) rules) fresh) ((key_found r.key rules).1 i) in
-    let whole : IsUserTable net s more = record {
-      distinct = table_push rules r table.distinct absent;
-      clear = clear_push rules r (not-true (list_any (λ q. keys_clash q.key r.key) rules) apart) table.clear;
-      rules = all_push (IsUserRule net (record { 0 = s })) rules r table.rules user;
-    } in
-    let longer : length more ≡ suc (length rules) = let h = length-append rules (r ∷ []) in omega arith in
-    let is = ok_is more new e2 in
-    (subst (IsUserTable net s) is whole, subst (λ (x : List Rule). length x ≡ suc (length rules)) is longer)
+    let longer = length_push rules r in
+    subst (λ (x : List Rule). IsUserTable net s x × (length x ≡ suc (length rules))) (ok_is more new e2)
+    (user_push net s rules r table user (not-true _ fresh) (not-true _ apart), omega arith)
 
 -- ---- one rule more in the tables
 
 module _ (net : Network) where
-  switch_within : (names : List (List ℕ)) (name : List ℕ) (s : ℕ) → switch_named names name ≡ Some s → s < length names
-  switch_within names name s e =
-      let p = cond_some (nat_lt (position_or_len (λ n. bytes_eq name n) names) (length names)) (position_or_len (λ n. bytes_eq name n) names) s e in
-      subst (λ (k : ℕ). k < length names) p.1 (ltb-true (position_or_len (λ n. bytes_eq name n) names) (length names) p.0)
-
   switch_shown : (place : ℕ) (d : Data) (s : SwitchId) → switch_in place net d ≡ Ok s → (place < 2048) × (s.0 < switch_count net)
   unfolding switch_in
   switch_shown place d s e =
@@ -108,7 +105,7 @@ module _ (net : Network) where
       let (object, e2) = check_passed (is_object d) (Shape field.Rules place) _ s e1 in
       let (name, there, e3) = need_passed (text_at (codes "switch") d) (Shape field.Switch place) _ s e2 in
       let (k, named, e4) = need_passed (switch_named net.names name) (UnknownSwitch place) (λ (j : ℕ). Ok (record { 0 = j })) s e3 in
-      (ltb-true place 2048 few, subst (λ (t : SwitchId). t.0 < switch_count net) (ok_is (record { 0 = k }) s e4) (switch_within net.names name k named))
+      (ltb-true place 2048 few, subst (λ (t : SwitchId). t.0 < switch_count net) (ok_is (record { 0 = k }) s e4) (named_within net.names name k named))
 
   rule_kept : (n : ℕ) (tables more : List (List Rule)) (d : Data) → AreUserTables net n tables → rule_at net (place_of n) tables d ≡ Ok more → AreUserTables net (suc n) more
   unfolding rule_at rule_to with_rule

@@ -7,5 +7,5 @@ mod rules;
 mod write;
 
 pub use fault::ConfigFault;
-pub use read::read_config;
+pub use read::{over_capacity, read_config};
 pub use write::config_text;

@@ -160,7 +160,7 @@ fn is_over(net: &Net, config: &Config, switch: SwitchId) -> bool
 }
 
 /// The least switch whose table is longer than its capacity.
-fn over_capacity(net: &Net, config: &Config) -> Option<SwitchId>
+pub fn over_capacity(net: &Net, config: &Config) -> Option<SwitchId>
     requires { length config.now ≡ switch_count net.now }
     ensures { option_map (λ s. s.0) result
         ≡ configuration.over_capacity net.now (rules_of_all config.now) }

@@ -1,25 +1,21 @@
 -- The lines of messages are read back as these messages, and as no others.
-use Rattle.std.proofs.Common.{◌≡◌, ℕ, zero, suc, ◌+◌, ◌<◌, true, false, List, [], ◌∷◌, ◌++◌, length, get_or, Some, None, decimal, refl, sym, ap, ◌∙◌, subst, append_assoc, inl, inr, arith}
+use Rattle.std.proofs.Common.{◌≡◌, ℕ, zero, suc, ◌+◌, ◌<◌, List, [], ◌∷◌, ◌++◌, length, get_or, Some, None, decimal, refl, sym, ap, ◌∙◌, subst, append_assoc, arith}
 use Rattle.std.specs.Prelude.{flat_map}
-use Rattle.std.specs.Str.{bytes_eq}
-use Rattle.std.specs.List.{AllByRecursion, position_or_len}
+use Rattle.std.specs.List.{AllByRecursion}
 use Rattle.std.specs.declared.result.Result.{Result}
 use Rattle.std.specs.Result.{result_unwrap_or}
-use Rattle.std.proofs.lemmas.Bool.{lt-ltb, false_from_ne_true}
 use Rattle.std.proofs.lemmas.Option.{same_Some}
-use Rattle.std.proofs.lemmas.Slice.Eq.{bytes_eq-Decides}
 use Rattle.std.proofs.Math.Seq.{take-length}
 use Rattle.hex.specs.Hex.{encode_lower, decode_of}
 use Rattle.hex.specs.declared.error.FromHexError.{FromHexError}
 use Rattle.hex.proofs.HexLemmas.{decode_of-encode_lower}
-use Rattle.net_base.specs.Members.{IsIn, IsDistinct}
 use Rattle.net_base.specs.Text.{cut_first, decimal_in}
 use Rattle.net_base.specs.declared.ids.SwitchId.{SwitchId}
 use Rattle.net_base.proofs.Cuts.{cut_first-at}
 use Rattle.net_base.proofs.Decimals.{decimal_in-decimal}
 use Rattle.net_base.proofs.MemberLaws.{each_append}
 use Rattle.net_base.proofs.NameLaws.{same_switch}
-use Rattle.topology.specs.Networks.{Network, switch_count, switch_named, IsNetwork, IsName}
+use Rattle.topology.specs.Networks.{Network, switch_named, IsNetwork, IsName}
 use Rattle.openflow10.specs.Messages.{BeginsWith, IsMessage, wire_text}
 use Rattle.openflow10.specs.declared.Message.{Message}
 use Rattle.command_base.specs.Lines.{switch_name}
@@ -28,14 +24,7 @@ use Rattle.emit_command.specs.Lines.{line_of}
 use Rattle.emit_command.specs.ReadBack.{ReadsAs, AreReadAs}
 use Rattle.round_messages.proofs.Requests.{IsSent}
 use Rattle.emit_command.proofs.Texts.{AreAbove, lacks, above_more, decimal_above, name_above, hex_above, bytes_wire}
-use Rattle.net_base.proofs.ItemLaws.{in_at}
-use Rattle.topology.proofs.NamedLaws.{named_at}
-
--- ---- names
-
--- a switch is found by its name
-name_found : (net : Network) (s : SwitchId) → IsDistinct net.names → s.0 < switch_count net → switch_named net.names (switch_name net s) ≡ Some s.0
-name_found net s distinct lt = rw (named_at net.names s.0 distinct lt, lt-ltb s.0 (length net.names) lt) refl
+use Rattle.topology.proofs.NamedLaws.{named_again}
 
 each_place : {A : Type 0} (P : A → Type 0) (xs : List A) (i : ℕ) (d : A) → AllByRecursion P xs → i < length xs → P (get_or xs i d)
 each_place P [] i d h lt = absurd (omega arith)
@@ -82,7 +71,7 @@ module _ (net : Network) (is : IsNetwork net) (m : Sent) (h : IsSent net m) wher
     first_space = cut_first-at 32 (decimal (m.round + 1)) (switch_name net m.switch ++ 32 ∷ encode_lower (wire_text m.message)) (lacks 32 (decimal (m.round + 1)) number_above);
     next_space = cut_first-at 32 (switch_name net m.switch) (encode_lower (wire_text m.message)) (lacks 32 (switch_name net m.switch) name_is_above);
     round_is = let lt = h.round in decimal_in-decimal (m.round + 1) 4294967295 (omega arith) (omega arith);
-    switch_is = name_found net m.switch is.names h.switch;
+    switch_is = named_again net.names m.switch.0 is.names h.switch;
     bytes_are = decode_of-encode_lower (wire_text m.message) (bytes_wire m.message);
     message_is = whole_message;
   }

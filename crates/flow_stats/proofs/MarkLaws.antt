@@ -13,6 +13,7 @@ use Rattle.net_base.specs.contracts.ids.PortPartialEq.TheImpl as port
 use Rattle.net_base.proofs.ListLaws.{any_in, in_from_any}
 use Rattle.flow_rules.specs.Overlaps.{ports_meet, vlans_meet, blocks_meet, keys_clash}
 use Rattle.flow_rules.specs.Patterns.{vlan_test_eq, key_eq}
+use Rattle.flow_rules.proofs.EqualLaws.{same_port, same_test}
 use Rattle.flow_rules.specs.declared.rules.VlanTest.{VlanTest}
 use Rattle.flow_rules.specs.declared.rules.VlanTest.TheVariants as test
 use Rattle.flow_rules.specs.contracts.rules.VlanTestPartialEq.TheImpl as test_impl
@@ -29,28 +30,11 @@ use Rattle.flow_stats.proofs.AreaLaws.{meets_exactly, meets_within, exactly_from
 
 -- ---- the derived `==` of marks
 
-same_port : (a b : Option Port) → option_eq port.eq-value.it a b ≡ in_port_eq a b
-same_port None None = refl
-same_port None (Some q) = refl
-same_port (Some p) None = refl
-same_port (Some p) (Some q) = refl
-
 same_ports : (a b : Option (Option Port)) → option_eq (option_eq port.eq-value.it) a b ≡ option_eq in_port_eq a b
 same_ports None None = refl
 same_ports None (Some q) = refl
 same_ports (Some p) None = refl
 same_ports (Some p) (Some q) = same_port p q
-
-same_test : (a b : VlanTest) → test_impl.eq-value.it a b ≡ vlan_test_eq a b
-same_test test.Any test.Any = refl
-same_test test.Any test.Untagged = refl
-same_test test.Any (test.Id n) = refl
-same_test test.Untagged test.Any = refl
-same_test test.Untagged test.Untagged = refl
-same_test test.Untagged (test.Id n) = refl
-same_test (test.Id m) test.Any = refl
-same_test (test.Id m) test.Untagged = refl
-same_test (test.Id m) (test.Id n) = refl
 
 same_tests : (a b : Option VlanTest) → option_eq test_impl.eq-value.it a b ≡ option_eq vlan_test_eq a b
 same_tests None None = refl

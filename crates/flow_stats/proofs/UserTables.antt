@@ -1,33 +1,31 @@
 -- Tables that flow statistics tell are a user configuration.
 use Rattle.std.proofs.Common.{◌≡◌, ℕ, suc, ◌+◌, ◌^◌, ◌<◌, true, false, cond, Result, Ok, Err, List, [], ◌∷◌, ◌++◌, length, set, get_or, refl, sym, ◌∙◌, ap, subst, arith}
 use Rattle.std.specs.Prelude.{Option, Some, None, not, nat_lt, nat_le, ◌&&◌, IfOk, option_map}
-use Rattle.std.specs.List.{list_any, position_or_len, AllByRecursion}
+use Rattle.std.specs.List.{list_any, AllByRecursion}
 use Rattle.std.specs.Result.{result_ok}
-use Rattle.std.proofs.lemmas.Bool.{and_parts, leb-true, ltb-true, not-true, both_ways}
-use Rattle.std.proofs.lemmas.List.{length-set, length-append}
-use Rattle.std.proofs.lemmas.Option.{cond_some}
-use Rattle.std.specs.Str.{bytes_eq, is_utf8}
+use Rattle.std.proofs.lemmas.Bool.{and_parts, leb-true, ltb-true, not-true}
+use Rattle.std.proofs.lemmas.List.{length-set, length_push}
+use Rattle.std.specs.Str.{is_utf8}
 use Rattle.std.proofs.lemmas.List.Sums.{sum_by-set}
 use Rattle.hex.specs.Hex.{decode_of}
 use Rattle.hex.proofs.HexLemmas.{decode_of-ok}
-use Rattle.net_base.specs.Members.{IsIn}
 use Rattle.net_base.specs.Reading.{◌>>=◌, check, in_turn, place_of, Gives}
 use Rattle.net_base.specs.Text.{cut_first}
 use Rattle.net_base.specs.declared.ids.SwitchId.{SwitchId}
 use Rattle.net_base.proofs.Turns.{bind_ok, ok_is, in_turn-keeps}
 use Rattle.net_base.specs.Lines.{lines_of, is_comment}
 use Rattle.topology.specs.Networks.{Network, switch_count, switch_named}
+use Rattle.topology.proofs.NamedLaws.{named_within}
 use Rattle.flow_rules.specs.Patterns.{key_eq}
 use Rattle.flow_rules.specs.Overlaps.{keys_clash}
-use Rattle.flow_rules.specs.Tables.{TableState, rules_at, rules_of_all, keys_of}
+use Rattle.flow_rules.specs.Tables.{TableState, rules_at, rules_of_all}
 use Rattle.flow_rules.specs.declared.rules.Rule.{Rule}
-use Rattle.flow_rules.proofs.TableLaws.{table_push, key_found}
 use Rattle.path_walk.specs.UserConfigs.{IsUserRule, IsUserConfig}
 use Rattle.openflow10.proofs.NumberLaws.{IsBytes, number_at-lt}
 use Rattle.config_files.specs.Configuration.{over_capacity}
 use Rattle.config_files.proofs.Steps.{need_passed, check_passed}
 use Rattle.config_files.proofs.TableUpdates.{each_after}
-use Rattle.config_files.proofs.UserTables.{IsUserTable, AreUserTables, all_push, clear_push, no_rules, fits}
+use Rattle.config_files.proofs.UserTables.{IsUserTable, AreUserTables, user_push, no_rules, fits}
 use Rattle.flow_stats.specs.Entries.{Fill, entries_in}
 use Rattle.flow_stats.specs.Messages.{Reply, is_flow_reply, reply_in, progress_of}
 use Rattle.flow_stats.specs.Layout.{stats_reply_at}
@@ -52,15 +50,9 @@ with_new net place s rules new r table user e =
     let more : List Rule = rules ++ r ∷ [] in
     let (fresh, e1) = check_passed (not (list_any (λ q. key_eq q.key r.key) rules)) (KeyTwice place) (check (not (list_any (λ q. keys_clash q.key r.key) rules)) (Overlap place) >>= λ _. Ok more) new e in
     let (apart, e2) = check_passed (not (list_any (λ q. keys_clash q.key r.key) rules)) (Overlap place) (Ok more) new e1 in
-    let absent : ¬ IsIn r.key (keys_of rules) = λ i. both_ways (list_any (λ q. key_eq q.key r.key) rules) (not-true (list_any (λ q. key_eq q.key r.key) rules) fresh) ((key_found r.key rules).1 i) in
-    let whole : IsUserTable net s more = record {
-      distinct = table_push rules r table.distinct absent;
-      clear = clear_push rules r (not-true (list_any (λ q. keys_clash q.key r.key) rules) apart) table.clear;
-      rules = all_push (IsUserRule net (record { 0 = s })) rules r table.rules user;
-    } in
-    let longer : length more ≡ suc (length rules) = let h = length-append rules (r ∷ []) in omega arith in
-    let is = ok_is more new e2 in
-    (subst (IsUserTable net s) is whole, subst (λ (x : List Rule). length x ≡ suc (length rules)) is longer)
+    let longer = length_push rules r in
+    subst (λ (x : List Rule). IsUserTable net s x × (length x ≡ suc (length rules))) (ok_is more new e2)
+    (user_push net s rules r table user (not-true _ fresh) (not-true _ apart), omega arith)
 
 -- ---- one entry more
 
@@ -145,11 +137,6 @@ module _ (net : Network) where
       let (begun, e2) = check_passed (not (is_whole before.progress sent.switch)) (BadMessage number) (with_reply net sent.switch before reply) after e1 in
       with_reply_kept sent.switch before after reply known (reply_bounded sent.bytes reply h there) user e2
 
-  switch_within : (names : List (List ℕ)) (name : List ℕ) (s : ℕ) → switch_named names name ≡ Some s → s < length names
-  switch_within names name s e =
-      let p = cond_some (nat_lt (position_or_len (λ n. bytes_eq name n) names) (length names)) (position_or_len (λ n. bytes_eq name n) names) s e in
-      subst (λ (k : ℕ). k < length names) p.1 (ltb-true (position_or_len (λ n. bytes_eq name n) names) (length names) p.0)
-
   ok_some : {A E : Type 0} (r : Result A E) (x : A) → result_ok r ≡ Some x → r ≡ Ok x
   ok_some (Ok y) x e = let f : y ≡ x = let g : Some y ≡ Some x = e in cc in ap (λ z. Ok z) f
   ok_some (Err f) x e = absurd cc
@@ -164,7 +151,7 @@ module _ (net : Network) where
       let (parts, cut, e1) = need_passed (cut_first 32 text) (BadLine number) _ sent e in
       let (k, named, e2) = need_passed (switch_named net.names parts.0) (BadLine number) _ sent e1 in
       let (bytes, there, e3) = need_passed (bytes_in parts.1) (BadLine number) (λ (bytes : List ℕ). let t : Sent = record { switch = record { 0 = k }; bytes = bytes } in Ok t) sent e2 in
-      subst (λ (t : Sent). (t.switch.0 < switch_count net) × IsBytes t.bytes) (ok_is _ sent e3) (switch_within net.names parts.0 k named, bytes_bounded parts.1 bytes there)
+      subst (λ (t : Sent). (t.switch.0 < switch_count net) × IsBytes t.bytes) (ok_is _ sent e3) (named_within net.names parts.0 k named, bytes_bounded parts.1 bytes there)
 
   sent_shown : (number : ℕ) (line : List ℕ) (sent : Sent) → sent_in net number line ≡ Ok sent → (sent.switch.0 < switch_count net) × IsBytes sent.bytes
   sent_shown number line sent e =

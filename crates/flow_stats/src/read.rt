@@ -4,7 +4,6 @@ ghost use Rattle.net_base.specs.Reading.{Gives, Fails, in_turn};
 ghost use Rattle.topology.specs.Networks.{switch_count};
 ghost use Rattle.flow_rules.specs.Tables.{rules_of_all};
 ghost use Rattle.path_walk.specs.UserConfigs.{IsUserConfig};
-ghost use Rattle.config_files.specs.Configuration as files;
 ghost use Rattle.flow_stats.specs.declared.fault.StatsFault.TheVariants.{Memory};
 ghost use Rattle.flow_stats.specs.declared.messages.Progress.TheVariants.{Awaited};
 ghost use Rattle.flow_stats.specs.Lines.{sent_seen};
@@ -17,6 +16,7 @@ use crate::fault::StatsFault;
 use crate::index::RuleIndex;
 use crate::lines::{SentMessage, read_sent};
 use crate::messages::{FlowReply, Progress, read_reply};
+use config_files::over_capacity;
 use flow_rules::Config;
 use net_base::{SwitchId, is_comment, place_of};
 use std::alloc::Global;
@@ -166,28 +166,6 @@ fn incomplete(net: &Net, told: &StatsSoFar) -> Option<SwitchId>
 {
     for s in 0..net.switches() {
         if is_begun(told, SwitchId(s)) {
-            return Some(SwitchId(s));
-        }
-    }
-    None
-}
-
-/// Whether the table of the switch is longer than its capacity.
-fn is_over(net: &Net, config: &Config, switch: SwitchId) -> bool
-    requires within { switch.0 < switch_count net.now }
-    requires tables { length config.now ≡ switch_count net.now }
-    ensures { result ≡ files.is_over net.now (rules_of_all config.now) switch.0 }
-{
-    config.table(switch).rules().len() > net.capacity(switch) as usize
-}
-
-/// The least switch whose table is longer than its capacity.
-fn over_capacity(net: &Net, config: &Config) -> Option<SwitchId>
-    requires { length config.now ≡ switch_count net.now }
-    ensures { option_map (λ s. s.0) result ≡ files.over_capacity net.now (rules_of_all config.now) }
-{
-    for s in 0..net.switches() {
-        if is_over(net, config, SwitchId(s)) {
             return Some(SwitchId(s));
         }
     }

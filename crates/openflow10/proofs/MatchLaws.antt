@@ -131,7 +131,7 @@ dl_vlan_of-cond false true t n none e = sym (none refl)
 dl_vlan_of-cond false false t n none e = refl
 
 -- equal fields make equal matches
-same_match : (m n : MatchFields) → m.wildcards ≡ n.wildcards → m.in_port ≡ n.in_port → m.dl_src ≡ n.dl_src → m.dl_dst ≡ n.dl_dst → m.dl_vlan ≡ n.dl_vlan
+pub same_match : (m n : MatchFields) → m.wildcards ≡ n.wildcards → m.in_port ≡ n.in_port → m.dl_src ≡ n.dl_src → m.dl_dst ≡ n.dl_dst → m.dl_vlan ≡ n.dl_vlan
     → m.dl_vlan_pcp ≡ n.dl_vlan_pcp → m.pad1 ≡ n.pad1 → m.dl_type ≡ n.dl_type → m.nw_tos ≡ n.nw_tos → m.nw_proto ≡ n.nw_proto → m.pad2 ≡ n.pad2
     → m.nw_src ≡ n.nw_src → m.nw_dst ≡ n.nw_dst → m.tp_src ≡ n.tp_src → m.tp_dst ≡ n.tp_dst → m ≡ n
 same_match m n e1 e2 e3 e4 e5 e6 e7 e8 e9 e10 e11 e12 e13 e14 e15 = λ i. record {

@@ -18,7 +18,6 @@ use Rattle.openflow10.specs.Messages.{type_of, xid_of, length_of, header_table, 
 use Rattle.openflow10.specs.Reading.{Names, NamesFlow}
 use Rattle.openflow10.specs.Refusals.{first_failed, match_tests, command_tests, flow_tests, header_tests, body_tests, refusal_of, is_type, is_length, has_command, has_timeouts, profile}
 use Rattle.openflow10.specs.declared.WireField.TheVariants as field
-use Rattle.openflow10.specs.declared.ofp_match.MatchFields.{MatchFields}
 use Rattle.openflow10.specs.declared.ofp_flow_mod.FlowModFields.{FlowModFields}
 use Rattle.openflow10.specs.declared.ofp_action.ActionFields.{ActionFields}
 use Rattle.openflow10.specs.declared.Verb.{Verb}
@@ -29,7 +28,7 @@ use Rattle.openflow10.specs.declared.Message.TheVariants.{Flow, BarrierRequest, 
 use Rattle.openflow10.proofs.NumberLaws.{IsBytes, number_at-lt}
 use Rattle.openflow10.proofs.TableLaws.{Fit, length-text_of, text-holds, holds-text, Spans-append, Holds-append, Holds-split, Fit-append}
 use Rattle.openflow10.proofs.TestLaws.{all_pass, none_fails, first_failed-none, first_failed-split}
-use Rattle.openflow10.proofs.MatchLaws.{IsWritten, IsNamed, match_passes, match_of-pattern_in, port_in-range, vlan_in-range, prefix_in-range, match_of-passes, pattern_in-match_of}
+use Rattle.openflow10.proofs.MatchLaws.{IsWritten, IsNamed, same_match, match_passes, match_of-pattern_in, port_in-range, vlan_in-range, prefix_in-range, match_of-passes, pattern_in-match_of}
 use Rattle.openflow10.proofs.ActionLaws.{some_is, verb_in-some, verb_in-again, actions_table-spans, length-actions_at, actions_at-holds, actions_at-held, verb_actions-fit, few_actions}
 
 -- ---- the tables
@@ -200,31 +199,15 @@ same_flow_mod f g e1 e2 e3 e4 e5 e6 e7 e8 e9 = λ i. record {
   flags = e9 i;
 }
 
-match_held : (m : MatchFields) (f : FlowModFields) (bytes : List ℕ) → f.pattern ≡ m → Holds bytes (flow_mod_table f) → match_at 8 bytes ≡ f.pattern
-match_held m f bytes e h =
+match_held : (f : FlowModFields) (bytes : List ℕ) → Holds bytes (flow_mod_table f) → match_at 8 bytes ≡ f.pattern
+match_held f bytes h =
     let (e1, (e2, (e3, (e4, (e5, (e6, (e7, (e8, (e9, (e10, (e11, (e12, (e13, (e14, (e15, _))))))))))))))) = h in
-    λ i. record {
-      wildcards = e1 i;
-      in_port = e2 i;
-      dl_src = e3 i;
-      dl_dst = e4 i;
-      dl_vlan = e5 i;
-      dl_vlan_pcp = e6 i;
-      pad1 = e7 i;
-      dl_type = e8 i;
-      nw_tos = e9 i;
-      nw_proto = e10 i;
-      pad2 = e11 i;
-      nw_src = e12 i;
-      nw_dst = e13 i;
-      tp_src = e14 i;
-      tp_dst = e15 i;
-    }
+    same_match (match_at 8 bytes) f.pattern e1 e2 e3 e4 e5 e6 e7 e8 e9 e10 e11 e12 e13 e14 e15
 
 flow_mod_held : (f : FlowModFields) (bytes : List ℕ) → Holds bytes (flow_mod_table f) → flow_mod_at bytes ≡ f
 flow_mod_held f bytes h =
     let (_, (_, (_, (_, (_, (_, (_, (_, (_, (_, (_, (_, (_, (_, (_, (e1, (e2, (e3, (e4, (e5, (e6, (e7, (e8, _))))))))))))))))))))))) = h in
-    same_flow_mod (flow_mod_at bytes) f (match_held f.pattern f bytes refl h) e1 e2 e3 e4 e5 e6 e7 e8
+    same_flow_mod (flow_mod_at bytes) f (match_held f bytes h) e1 e2 e3 e4 e5 e6 e7 e8
 
 count_back : (n : ℕ) → (72 + 8 * n - 72) / 8 ≡ n
 count_back n = omega arith

@@ -17,7 +17,7 @@ use Rattle.net_base.specs.Reading.{in_turn, place_of}
 use Rattle.net_base.proofs.Prefixes.{prefix_in-text}
 use Rattle.flat_json.proofs.JsonTree.{list_of-items_of}
 use Rattle.topology.specs.Networks.{Network, switch_count, switch_named, IsPortNumber}
-use Rattle.topology.proofs.NamedLaws.{named_at}
+use Rattle.topology.proofs.NamedLaws.{named_again}
 use Rattle.flow_rules.specs.declared.rules.VlanTest.{VlanTest}
 use Rattle.flow_rules.specs.declared.rules.VlanTest.TheVariants as test
 use Rattle.flow_rules.specs.declared.rules.Rewrite.TheVariants.{Keep, Set, Strip}
@@ -118,7 +118,7 @@ strip_read (Out port Strip) = refl
 -- ---- names
 
 name_read : (net : Network) (n : ℕ) → IsDistinct net.names → n < switch_count net → switch_named net.names (unwrap_or (slice_get net.names n) []) ≡ Some n
-name_read net n distinct lt = rw (unwrap_or-slice_get net.names n [], named_at net.names n distinct lt, lt-ltb n (length net.names) lt) refl
+name_read net n distinct lt = rw (unwrap_or-slice_get net.names n []) (named_again net.names n distinct lt)
 
 -- ---- rules
 

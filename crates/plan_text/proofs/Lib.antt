@@ -1,5 +1,4 @@
 pub mod UsedRules
-pub mod SameRule
 pub mod Marked
 pub mod Adding
 pub mod Order

@@ -1,5 +1,5 @@
 -- Each rule once, in order of first use, by one use after the other.
-use Rattle.std.proofs.Common.{◌≡◌, ℕ, Bool, true, false, not, ◌||◌, List, [], ◌∷◌, ◌++◌, map, filter, cond, refl, sym, ap, subst, ◌∙◌, append_assoc}
+use Rattle.std.proofs.Common.{◌≡◌, ◌==◌, ℕ, Bool, true, false, not, ◌&&◌, ◌||◌, List, [], ◌∷◌, ◌++◌, map, filter, cond, refl, sym, ap, subst, ◌∙◌, append_assoc}
 use Rattle.std.specs.List.{list_any}
 use Rattle.std.proofs.lemmas.Bool.{eqb-true, eq-eqb, and_parts, and_from, false_from_ne_true, both_ways}
 use Rattle.std.proofs.lemmas.List.Elements.{filter-append}
@@ -7,10 +7,16 @@ use Rattle.std.proofs.lemmas.List.{append-nil}
 use Rattle.std.proofs.lemmas.Grind.{flat_map-append}
 use Rattle.flow_rules.specs.declared.rules.Rule.{Rule}
 use Rattle.flow_rules.proofs.TableLaws.{rule_eq-true, rule_eq-refl}
+use Rattle.flow_rules.proofs.EqualLaws.{same_rule}
 use Rattle.plan_text.specs.PlanText.{plan_rule_eq, plan_rule_of, rules_of, rules_once}
 use Rattle.update_model.specs.declared.Change.{Change}
 use Rattle.plan_format.specs.declared.rules.PlanRule.{PlanRule}
+use Rattle.plan_format.specs.contracts.rules.PlanRulePartialEq.TheImpl as rule_impl
 use Rattle.plan_text.specs.Uses.{with_use, with_uses}
+
+-- the derived `==` is the definition's
+pub derived_test : (p : PlanRule) → rule_impl.eq-value.it p ≡ plan_rule_eq p
+derived_test p = λ i q. ap (λ b. p.switch.0 == q.switch.0 && b) (same_rule p.rule q.rule) i
 
 pub plan_rule_eq-true : (p q : PlanRule) → plan_rule_eq p q ≡ true → p ≡ q
 plan_rule_eq-true p q e =

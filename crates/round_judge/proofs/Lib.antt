@@ -1,4 +1,3 @@
-pub mod KeepLaws
 pub mod GrowthLaws
 pub mod EvidenceLaws
 pub mod VisitLaws

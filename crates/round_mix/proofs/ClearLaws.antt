@@ -5,7 +5,7 @@ use Rattle.std.proofs.lemmas.Bool.{cases_order}
 use Rattle.std.proofs.lemmas.List.{map-append, length-map, length-append}
 use Rattle.std.proofs.lemmas.List.Sorted.{length_permutation, IsPermutation-sym}
 use Rattle.net_base.specs.Members.{IsIn, IsDistinct, IsSubsequence}
-use Rattle.net_base.proofs.MemberLaws.{in_map, in_from_map, in_append_cases, in_from_subsequence, each_at}
+use Rattle.net_base.proofs.MemberLaws.{in_map, in_from_map, in_append_cases, in_from_subsequence, each_at, in_permutation}
 use Rattle.flow_rules.specs.Patterns.{covers}
 use Rattle.flow_rules.specs.Overlaps.{IsClash}
 use Rattle.flow_rules.specs.Tables.{keys_of, IsTable}
@@ -25,7 +25,7 @@ use Rattle.flow_rules.specs.Overlaps.{IsClashAt, IsLeastClash}
 use Rattle.round_mix.specs.Faults.{IsAmbiguous}
 use Rattle.round_mix.specs.Prepared.{AreGood, AreClear, IsFalling, IsPrepared}
 use Rattle.round_mix.specs.declared.MarkedRule.{MarkedRule}
-use Rattle.round_mix.proofs.MarkLaws.{in_permutation, IsInsertOf, in_from_inserted, insert_writes, rules_by-key, all_mixed, available_from}
+use Rattle.round_mix.proofs.MarkLaws.{IsInsertOf, in_from_inserted, insert_writes, rules_by-key, all_mixed, available_from}
 use Rattle.net_base.proofs.ItemLaws.{in_from_get}
 
 module _ {A B : Type 0} (f : A → B) where

@@ -6,7 +6,7 @@ use Rattle.std.proofs.lemmas.List.{map-append}
 use Rattle.std.proofs.lemmas.List.Elements.{recursion_from_All, All-from_recursion}
 use Rattle.std.proofs.lemmas.List.Sorted.{IsPermutation-map, IsPermutation-sym, All-permutation}
 use Rattle.net_base.specs.Members.{IsIn, IsDistinct}
-use Rattle.net_base.proofs.MemberLaws.{in_map, in_from_map, in_append_right, in_append_cases, each_at, each_from_in, each_map}
+use Rattle.net_base.proofs.MemberLaws.{in_map, in_from_map, in_append_right, in_append_cases, each_at, each_from_in, each_map, in_permutation}
 use Rattle.flow_rules.specs.Overlaps.{IsClash}
 use Rattle.flow_rules.specs.Tables.{keys_of, IsTable}
 use Rattle.flow_rules.specs.declared.rules.Key.{Key}
@@ -25,7 +25,7 @@ use Rattle.round_mix.specs.Prepared.{AreGood, IsFalling, IsPrepared}
 use Rattle.round_mix.specs.declared.Mark.TheVariants.{Sure}
 use Rattle.round_mix.specs.declared.MarkedRule.{MarkedRule}
 use Rattle.round_mix.proofs.ClearLaws.{one_by, clear_from_free, rules_of-marked}
-use Rattle.round_mix.proofs.MarkLaws.{in_permutation, IsInsertOf, in_inserted, in_from_inserted, insert_writes}
+use Rattle.round_mix.proofs.MarkLaws.{IsInsertOf, in_inserted, in_from_inserted, insert_writes}
 
 -- no member of the first list stands in the second
 parts_apart : (xs ys : List Key) (k : Key) → IsDistinct (xs ++ ys) → IsIn k xs → IsIn k ys → ⊥

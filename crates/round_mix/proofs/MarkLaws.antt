@@ -1,13 +1,11 @@
 -- What the marks of a table's rules and the inserted ones say.
 use Rattle.std.proofs.Common.{◌≡◌, ◌⊎◌, true, false, cond, List, [], ◌∷◌, ◌++◌, map, refl, sym, ◌∙◌, subst, ap, inl, inr, append_assoc}
-use Rattle.std.specs.Prelude.{Some, None, IsPermutation}
+use Rattle.std.specs.Prelude.{Some, None}
 use Rattle.std.specs.Option.{option_map_or}
 use Rattle.std.specs.List.{AllByRecursion}
 use Rattle.std.proofs.lemmas.Bool.{cond-true, cond-false, both_ways}
-use Rattle.std.proofs.lemmas.List.Elements.{All-from_recursion, recursion_from_All}
-use Rattle.std.proofs.lemmas.List.Sorted.{All-permutation}
 use Rattle.net_base.specs.Members.{IsIn, IsDistinct, IsSubsequence}
-use Rattle.net_base.proofs.MemberLaws.{in_map, in_from_map, in_append_left, in_append_right, in_append_cases, each_at, each_from_in}
+use Rattle.net_base.proofs.MemberLaws.{in_map, in_from_map, in_append_left, in_append_right, in_append_cases, each_at}
 use Rattle.flow_rules.specs.Patterns.{key_eq}
 use Rattle.flow_rules.specs.Tables.{keys_of}
 use Rattle.flow_rules.proofs.KeyLaws.{key_eq-true, key_eq-refl, key_ne}
@@ -24,12 +22,6 @@ use Rattle.round_mix.specs.Scan.{is_kept}
 use Rattle.round_mix.specs.declared.Mark.{Mark}
 use Rattle.round_mix.specs.declared.Mark.TheVariants.{Sure, Possible, Replaced}
 use Rattle.round_mix.specs.declared.MarkedRule.{MarkedRule}
-
--- a permutation has the same members
-pub in_permutation : {A : Type 0} (xs ys : List A) (x : A) → IsPermutation xs ys → IsIn x ys → IsIn x xs
-in_permutation {A} xs ys x moved i =
-    each_at (λ y. IsIn y xs) ys x
-    (recursion_from_All (λ y. IsIn y xs) ys (All-permutation (λ y. IsIn y xs) xs ys moved (All-from_recursion (λ y. IsIn y xs) xs (each_from_in (λ y. IsIn y xs) xs (λ y j. j))))) i
 
 -- the rules that a marked rule stands for
 abbrev pub rules_by : Mark → Rule → List Rule

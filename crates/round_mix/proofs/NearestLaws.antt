@@ -7,7 +7,7 @@ use Rattle.std.proofs.lemmas.List.{drop_more, drop_all, get_or-reverse, length-m
 use Rattle.std.proofs.lemmas.List.Sorted.{IsPermutation-reverse, IsPermutation-sym}
 use Rattle.std.proofs.lemmas.Option.{slice_get_read}
 use Rattle.net_base.specs.Members.{IsIn}
-use Rattle.net_base.proofs.MemberLaws.{in_map}
+use Rattle.net_base.proofs.MemberLaws.{in_map, in_permutation}
 use Rattle.net_base.proofs.ItemLaws.{in_from_get, past_end}
 use Rattle.flow_rules.specs.Patterns.{Header, covers}
 use Rattle.flow_rules.specs.Tuples.{pattern_around, slot_of, link_number, IsLink}
@@ -17,7 +17,6 @@ use Rattle.flow_rules.specs.declared.rules.Pattern.{Pattern}
 use Rattle.round_mix.specs.Nearest.{patterns_back, patterns_in, covers_there, IsMet, IsNear}
 use Rattle.round_mix.specs.Scan.{actions_by, is_kept, scan}
 use Rattle.round_mix.specs.declared.MarkedRule.{MarkedRule}
-use Rattle.round_mix.proofs.MarkLaws.{in_permutation}
 use Rattle.round_mix.proofs.PickedLaws.{put_kept, put_possible}
 
 -- a step along a slot passes none of its positions

@@ -9,7 +9,7 @@ use Rattle.std.proofs.lemmas.List.Sorted.{IsPermutation-map, IsPermutation-sym, 
 use Rattle.net_base.specs.Members.{IsIn, IsDistinct}
 use Rattle.net_base.specs.declared.ids.SwitchId.{SwitchId}
 use Rattle.net_base.proofs.ListLaws.{any_in}
-use Rattle.net_base.proofs.MemberLaws.{in_append_left, in_append_right, in_map, in_from_map, each_at, each_from_in, each_weaker, map-push}
+use Rattle.net_base.proofs.MemberLaws.{in_append_left, in_append_right, in_map, in_from_map, each_at, each_from_in, each_weaker, map-push, in_permutation}
 use Rattle.net_base.proofs.ItemLaws.{in_from_get}
 use Rattle.flow_rules.specs.Overlaps.{IsClash, keys_clash}
 use Rattle.flow_rules.specs.Patterns.{key_eq}
@@ -37,7 +37,7 @@ use Rattle.round_mix.proofs.ApartLaws.{same_clash}
 use Rattle.round_mix.proofs.ClearLaws.{keys_apart}
 use Rattle.round_mix.proofs.GoodLaws.{good_push}
 use Rattle.round_mix.proofs.KeyedLaws.{applies_named}
-use Rattle.round_mix.proofs.MarkLaws.{in_permutation, in_inserted, change_found}
+use Rattle.round_mix.proofs.MarkLaws.{in_inserted, change_found}
 use Rattle.round_mix.proofs.NamedLaws.{found_last, names_key, all_unchanged, marked_push}
 use Rattle.round_mix.proofs.TriedLaws.{marks_are, rules_moved, prepared_of, clear_all, clear_of, clear_more, falling_by, put_moved, put_falling, clash_to}
 

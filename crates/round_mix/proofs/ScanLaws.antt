@@ -5,7 +5,7 @@ use Rattle.std.specs.Option.{ForSome, option_map_or}
 use Rattle.std.proofs.lemmas.Bool.{cond-true, both_ways}
 use Rattle.std.proofs.lemmas.List.Sorted.{IsPermutation-sym}
 use Rattle.net_base.specs.Members.{IsIn}
-use Rattle.net_base.proofs.MemberLaws.{in_append_left, in_append_right, in_append_cases, each_at, in_map, in_from_map}
+use Rattle.net_base.proofs.MemberLaws.{in_append_left, in_append_right, in_append_cases, each_at, in_map, in_from_map, in_permutation}
 use Rattle.net_base.specs.declared.ids.Place.{Place}
 use Rattle.topology.specs.Networks.{Network}
 use Rattle.path_walk.specs.Outcomes.{action_outcome, header_at}
@@ -26,7 +26,7 @@ use Rattle.round_mix.specs.Scan.{actions_by, is_kept, scan}
 use Rattle.round_mix.specs.declared.Mark.{Mark}
 use Rattle.round_mix.specs.declared.Mark.TheVariants.{Sure, Possible, Replaced}
 use Rattle.round_mix.specs.declared.MarkedRule.{MarkedRule}
-use Rattle.round_mix.proofs.MarkLaws.{in_permutation, rules_by, rules_by-key, all_mixed, marked_from, kept_from, kept_to, available_from, available_to}
+use Rattle.round_mix.proofs.MarkLaws.{rules_by, rules_by-key, all_mixed, marked_from, kept_from, kept_to, available_from, available_to}
 
 -- marked rules, in descending priority, that are those of a table and good changes of it whose mixtures are all clear
 pub record AreScannable (table : List Rule) (changes : List Change) (marks : List MarkedRule) : Type 0 where

@@ -10,7 +10,7 @@ use Rattle.std.proofs.lemmas.List.Filters.{length-filter_both}
 use Rattle.std.proofs.lemmas.List.Sorted.{IsPermutation-map, IsPermutation-sym, IsPermutation-refl, IsPermutation-trans, IsPermutation-cons, IsPermutation-middle, IsPermutation-push_more, length_permutation}
 use Rattle.net_base.specs.Members.{IsIn, IsDistinct, IsSubsequence}
 use Rattle.net_base.proofs.ListLaws.{distinct_members, any_in, in_from_any}
-use Rattle.net_base.proofs.MemberLaws.{in_append_left, in_append_right, in_append_cases, in_map, in_from_map, each_from_in, each_weaker, each_filter, each_map, each_from_map, same_filter}
+use Rattle.net_base.proofs.MemberLaws.{in_append_left, in_append_right, in_append_cases, in_map, in_from_map, each_from_in, each_weaker, each_filter, each_map, each_from_map, same_filter, in_permutation}
 use Rattle.flow_rules.specs.Patterns.{key_eq}
 use Rattle.flow_rules.specs.Overlaps.{IsClash, keys_clash, patterns_meet}
 use Rattle.flow_rules.specs.Tables.{keys_of, IsTable, IsClear}
@@ -35,7 +35,7 @@ use Rattle.round_mix.specs.declared.Mark.{Mark}
 use Rattle.round_mix.specs.declared.Mark.TheVariants.{Sure, Possible, Replaced}
 use Rattle.round_mix.specs.declared.MarkedRule.{MarkedRule}
 use Rattle.round_mix.proofs.ClearLaws.{clear_from_free, rules_of-marked, keys_apart}
-use Rattle.round_mix.proofs.MarkLaws.{in_permutation, marked_from, all_mixed}
+use Rattle.round_mix.proofs.MarkLaws.{marked_from, all_mixed}
 
 -- distinct lists of the same members
 module _ {A : Type 0} where

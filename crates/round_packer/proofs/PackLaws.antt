@@ -26,7 +26,7 @@ use Rattle.packed_rounds.specs.Packing.{CanStand, IsFilled, IsPackedRound, ArePa
 use Rattle.packed_rounds.proofs.Packed.{packed_part, part_made, some_more}
 use Rattle.round_trials.specs.Filling.{TrialState, IsTrial}
 use Rattle.round_judge.specs.Goals.{HasAtoms}
-use Rattle.round_judge.proofs.KeepLaws.{keeps_all}
+use Rattle.update_model.proofs.HeldLaws.{each_tables_after}
 use Rattle.round_packer.specs.declared.failing.Failure.{Failure}
 use Rattle.round_packer.specs.Kept.{HasUnsafe, AreKept, unmet_failures}
 use Rattle.round_packer.specs.Filling.{IsPlain, IsFilling, IsFilledBy, IsPackedTo, EndsAt, HasFailed}
@@ -95,7 +95,7 @@ module _ (to : Target) (new_unique : AllUnique to.new) (old : List (List Rule)) 
         trial_is = trial;
         tables_are = made_is t tables_are;
         round_is = none;
-        rules = keeps_all round tables filled.filling.rules filled.filling.changes;
+        rules = each_tables_after (λ r. KeepsVlan r.action) round tables filled.filling.rules filled.filling.changes;
         changes = tt;
         kept = record { count = filled.filling.kept.count; each = λ n class is. kept_after to tables round good class _ (filled.filling.kept.each n class is) };
         atoms = filled.filling.atoms;

@@ -24,12 +24,12 @@ use Rattle.update_model.specs.Ranges.{IsPlanChange}
 use Rattle.update_model.specs.Remaining.{rule_with, difference, changes_between, keys_in_order, remaining_changes}
 use Rattle.update_model.specs.declared.Change.{Change}
 use Rattle.update_model.specs.declared.Change.TheVariants.{Insert, Delete, Replace}
-use Rattle.update_model.proofs.DifferenceLaws.{rule_same, remaining_in}
+use Rattle.update_model.proofs.DifferenceLaws.{remaining_in}
 use Rattle.update_model.proofs.KeyOrderLaws.{in_order}
 use Rattle.update_model.proofs.RemainingLaws.{rule_is, rule_told}
 use Rattle.update_model.proofs.RoundLaws.{settled_start}
 use Rattle.certificates.proofs.TreeTables.{unique_in_table}
-use Rattle.flow_rules.proofs.TableLaws.{action_eq-true}
+use Rattle.flow_rules.proofs.TableLaws.{action_eq-true, rule_same}
 use Rattle.certificates.specs.Updates.{Task}
 use Rattle.certificates.specs.Certified.{classes_for, KeepsVlan, IsCertified}
 use Rattle.certificates.specs.Valid.{IsValidPick, IsValidPlan}

@@ -27,7 +27,7 @@ use Rattle.round_tables.proofs.TrialLaws.{changes_here, changes_there}
 use Rattle.round_mix.proofs.TriedLaws.{clear_none}
 use Rattle.table_difference.specs.Targets.{Target}
 use Rattle.round_judge.specs.Goals.{duties_in}
-use Rattle.round_judge.proofs.KeepLaws.{keeps_after}
+use Rattle.update_model.proofs.HeldLaws.{each_tables_after}
 use Rattle.round_planner.specs.Search.{CanBeSafe, Qualifies}
 use Rattle.net_base.specs.Switches.{has}
 use Rattle.class_watch.specs.Alike.{AreAlike}
@@ -175,7 +175,7 @@ module _ (to : Target) (c : Change) (keeps : KeepsVlan (rule_of c).action) (clas
   never_safe [] tables rules apart never = never
   never_safe (d ∷ changes) tables rules apart never =
       let (kept, within, off) = apart.0 in
-      never_safe changes (tables_after_change d tables) (keeps_after d tables rules kept)
+      never_safe changes (tables_after_change d tables) (each_tables_after (λ r. KeepsVlan r.action) (d ∷ []) tables rules (kept, tt))
       (each_weaker (LeavesWalks tables) (LeavesWalks (tables_after_change d tables))
       (λ e h. (
         h.0,

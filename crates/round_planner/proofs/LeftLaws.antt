@@ -21,7 +21,7 @@ use Rattle.table_difference.specs.Targets.{Target}
 use Rattle.round_planner.specs.Search.{Qualifies}
 use Rattle.round_planner.specs.Failures.{IsFailure, IsTouched, HasStanding, IsOfUsers, AreOfUsers, AreLeft}
 use Rattle.round_planner.specs.Searching.{SearchState, IsAt, IsLeftTried, IsMadeAt, NoneQualifies, IsPlaced, IsMoved}
-use Rattle.round_judge.proofs.KeepLaws.{keeps_all}
+use Rattle.update_model.proofs.HeldLaws.{each_tables_after}
 use Rattle.round_planner.proofs.FailureLaws.{failure_stands, fails_then}
 use Rattle.round_planner.proofs.SearchingLaws.{split_there, take_more, tables_more}
 use Rattle.round_planner.proofs.UserTables.{AreUserTables, IsUserChange, keeps_user, user_start, user_along, changes_along, remaining_user}
@@ -165,7 +165,7 @@ module _ (to : Target) (old : List (List Rule)) (old_user : IsUserConfig to.net 
   user = user_along to old new_user old (user_start to old new_user old_user) changes at.stands.found
 
   rules_keep : TablesKeepVlans (tables_after changes old)
-  rules_keep = keeps_all changes old (tables_keep to.net old old_user)
+  rules_keep = each_tables_after (λ r. KeepsVlan r.action) changes old (tables_keep to.net old old_user)
       (each_weaker (IsUserChange to old) (λ d. KeepsVlan (rule_of d).action) (λ d is. keeps_user to.net (switch_of d) (rule_of d).action is.rule.action) changes
       (changes_along to old new_user old (user_start to old new_user old_user) changes at.stands.found))
 

@@ -1,13 +1,12 @@
 -- The line of an event spells the event.
-use Rattle.std.proofs.Common.{◌≡◌, ℕ, zero, suc, ◌+◌, ◌<◌, ◌≤◌, ◌^◌, true, false, List, [], ◌∷◌, ◌++◌, length, map, get_or, codes, decimal, Some, Ok, refl, sym, ap, ◌∙◌, subst, inl, inr, append_assoc, arith}
-use Rattle.std.specs.List.{AllByRecursion, position_or_len}
+use Rattle.std.proofs.Common.{◌≡◌, ℕ, suc, ◌+◌, ◌<◌, ◌≤◌, ◌^◌, true, false, List, [], ◌∷◌, ◌++◌, length, map, codes, decimal, Some, Ok, refl, sym, ap, ◌∙◌, append_assoc, arith}
+use Rattle.std.specs.List.{AllByRecursion}
 use Rattle.std.specs.Str.{bytes_eq}
 use Rattle.std.proofs.lemmas.Bool.{le-leb, lt-ltb, false_from_ne_true}
 use Rattle.std.proofs.lemmas.List.{append-nil, length_push}
 use Rattle.std.proofs.lemmas.Fmt.{length-decimal-le, digits_decimal}
 use Rattle.std.proofs.lemmas.Str.Parse.{not_in_digits}
 use Rattle.std.proofs.lemmas.Slice.Eq.{bytes_eq-Decides}
-use Rattle.net_base.specs.Members.{IsIn, IsDistinct}
 use Rattle.net_base.specs.Places.{stop_of}
 use Rattle.net_base.specs.Reading.{in_turn, place_of}
 use Rattle.net_base.specs.Text.{address_text, vlan_text}
@@ -19,7 +18,7 @@ use Rattle.net_base.proofs.MemberLaws.{each_append}
 use Rattle.net_base.proofs.Cuts.{Lacks, cut_first-at, cut_last-at}
 use Rattle.net_base.proofs.Decimals.{own, decimal_in-decimal}
 use Rattle.net_base.proofs.Prefixes.{address_in-text}
-use Rattle.topology.specs.Networks.{Network, IsNetwork, switch_count, switch_named, IsPortNumber, IsVlan}
+use Rattle.topology.specs.Networks.{Network, IsNetwork, switch_count, IsPortNumber, IsVlan}
 use Rattle.update_model.specs.declared.Event.{Event}
 use Rattle.update_model.specs.declared.Event.TheVariants.{Start, Settle, Change, Enter, Hop, Lose}
 use Rattle.schedule_replay.specs.declared.schedule.ScheduleLine.{ScheduleLine}
@@ -30,13 +29,7 @@ use Rattle.schedule_replay.specs.EventTexts.{switch_text, stop_text, place_text,
 use Rattle.schedule_replay.specs.Schedules.{event_at, line_at, schedule_in, numbered_lines}
 use Rattle.schedule_replay.proofs.Printed.{are_from, from-append, are_lower, Lacks-from, is_utf8-from, decimal_from, address_from, vlan_from, name_from}
 use Rattle.schedule_replay.proofs.LinesAgain.{lines_again}
-use Rattle.net_base.proofs.ItemLaws.{in_at}
-use Rattle.topology.proofs.NamedLaws.{named_at}
-
--- ---- names
-
-named_again : (names : List (List ℕ)) (n : ℕ) → IsDistinct names → n < length names → switch_named names (get_or names n []) ≡ Some n
-named_again names n distinct lt = rw (named_at names n distinct lt, lt-ltb n (length names) lt) refl
+use Rattle.topology.proofs.NamedLaws.{named_again}
 
 -- ---- the parts of an entry
 

@@ -1,18 +1,18 @@
 -- What blocks tell of lines, by the calls of the driver for which the lines ask.
-use Rattle.std.proofs.Common.{◌≡◌, ℕ, ◌<◌, Bool, true, false, cond, Result, Ok, Err, List, [], ◌∷◌, ◌++◌, length, refl, sym, ap, ◌∙◌, subst}
+use Rattle.std.proofs.Common.{◌≡◌, ℕ, Bool, true, false, cond, Result, Ok, Err, List, [], ◌∷◌, ◌++◌, length, refl, sym, ap, ◌∙◌}
 use Rattle.std.specs.Prelude.{Option, Some, None, is_none, nat_lt, flat_map, IfOk, codes}
-use Rattle.std.specs.List.{AllByRecursion, position_or_len, cons_option}
+use Rattle.std.specs.List.{AllByRecursion, cons_option}
 use Rattle.std.specs.Str.{bytes_eq, is_utf8}
-use Rattle.std.proofs.lemmas.Bool.{cond_both, ltb-true}
-use Rattle.std.proofs.lemmas.Option.{cond_some}
+use Rattle.std.proofs.lemmas.Bool.{cond_both}
 use Rattle.net_base.specs.Lines.{is_comment}
 use Rattle.net_base.specs.Reading.{◌>>=◌, need}
 use Rattle.net_base.specs.Text.{cut_first}
 use Rattle.topology.specs.Networks.{Network, switch_named}
+use Rattle.topology.proofs.NamedLaws.{named_within}
 use Rattle.update_model.specs.declared.Change.{Change}
 use Rattle.text_lines.specs.Words.{bytes_in}
 use Rattle.two_way_driver.specs.Calls.{DriverView, silent_view, start_fault, back_fault, started_view, turned_view}
-use Rattle.two_way_driver.specs.Laws.{Call, IsCall, after_call, after_calls}
+use Rattle.two_way_driver.specs.Laws.{Call, IsCall}
 use Rattle.two_way_driver.specs.Laws as call
 use Rattle.two_way_driver.specs.Words.{after_call_anew, after_calls_anew, said_by_each, joined_words}
 use Rattle.two_way_driver.specs.declared.DriverOutput.{DriverOutput}
@@ -172,11 +172,6 @@ ok_need None e f P h = tt
 ok_either : {B E : Type 0} (b : Bool) (one other : Result B E) (P : B → Type 0) → IfOk one P → IfOk other P → IfOk (cond b one other) P
 ok_either true one other P p q = p
 ok_either false one other P p q = q
-
-named_within : (names : List (List ℕ)) (name : List ℕ) (s : ℕ) → switch_named names name ≡ Some s → s < length names
-named_within names name s e =
-    let p = cond_some (nat_lt (position_or_len (λ n. bytes_eq name n) names) (length names)) (position_or_len (λ n. bytes_eq name n) names) s e in
-    subst (λ (k : ℕ). k < length names) p.1 (ltb-true (position_or_len (λ n. bytes_eq name n) names) (length names) p.0)
 
 module _ (net : Network) where
   reopened_within : (name : List ℕ) → IfOk (reopened_in net name) (IsLineOf net)

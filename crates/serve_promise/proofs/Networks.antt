@@ -1,10 +1,8 @@
 -- A network that is read keeps what every network keeps.
 use Rattle.std.proofs.Common.{◌≡◌, ℕ, ◌<◌, ◌≤◌, Bool, true, false, Ok, List, [], ◌∷◌, ◌++◌, length, cond, refl, subst, arith}
 use Rattle.std.specs.Prelude.{Option, Some, None, not, nat_lt, is_none, codes, count_by, option_and_then, IfSome}
-use Rattle.std.specs.List.{list_any, position_or_len}
-use Rattle.std.specs.Str.{bytes_eq}
+use Rattle.std.specs.List.{list_any}
 use Rattle.std.proofs.lemmas.Bool.{and_parts, ltb-true, leb-true, not-true}
-use Rattle.std.proofs.lemmas.Option.{cond_some}
 use Rattle.serde_json.specs.Data.{Data}
 use Rattle.serde_json.specs.Find.{as_str}
 use Rattle.net_base.specs.declared.ids.Stop.{Stop}
@@ -17,10 +15,11 @@ use Rattle.net_base.proofs.Turns.{bind_ok, ok_is, in_turn-keeps}
 use Rattle.flat_json.specs.JsonTree.{is_object, text_at, whole_at, list_in, list_at, tree_in}
 use Rattle.config_files.proofs.Steps.{need_passed, check_passed}
 use Rattle.topology.specs.Networks.{Network, TagRange, IsNetwork, switch_named, used_ports, is_on, stop_eq, vlan_eq, is_name, is_capacity, is_vlan_id, IsVlanId, IsVlan}
+use Rattle.topology.proofs.NamedLaws.{named_within}
 use Rattle.topology.specs.Ends.{IsPort}
 use Rattle.topology.specs.Growth.{no_network, with_switch, with_link, with_host, with_vlan, with_tags}
 use Rattle.topology.specs.References.{reference_parts}
-use Rattle.topology.proofs.GrowthLaws.{switch_kept, link_kept, host_kept, vlan_kept}
+use Rattle.topology.proofs.GrowthLaws.{switch_kept, link_kept, host_kept, vlan_kept, tags_kept}
 use Rattle.topology_files.specs.declared.fault.NetFault.{NetFault}
 use Rattle.topology_files.specs.declared.fault.NetFault.TheVariants as fault
 use Rattle.topology_files.specs.Topology.{name_at, named_at, switch_at, switches_in, is_port_number, reference, free_port, two_texts, linked_at, link_at, links_in, host_port_at, host_at, hosts_in, vlan_id, vlan_with, new_vlan_at, vlan_at, vlans_in, range_of, is_range, range_in, tags_in, ports_in, members_in, network_in}
@@ -79,11 +78,6 @@ record IsFreePort (net : Network) (used : List Stop) (stop : Stop) : Type 0 wher
   port : IsPort net stop
   free : list_any (stop_eq stop) used ≡ false
   room : count_by (is_on stop.switch) used < 64
-
-named_within : (names : List (List ℕ)) (name : List ℕ) (s : ℕ) → switch_named names name ≡ Some s → s < length names
-named_within names name s e =
-    let p = cond_some (nat_lt (position_or_len (λ n. bytes_eq name n) names) (length names)) (position_or_len (λ n. bytes_eq name n) names) s e in
-    subst (λ (k : ℕ). k < length names) p.1 (ltb-true (position_or_len (λ n. bytes_eq name n) names) (length names) p.0)
 
 reference_shown : (net : Network) (of : Field) (place : ℕ) (text : List ℕ) (stop : Stop) → reference net of place text ≡ Ok stop → IsPort net stop
 unfolding reference
@@ -185,29 +179,13 @@ range_shown (Some t) e =
     let (first, last) = and_parts _ _ ids in
     (id_shown t.first first, id_shown t.last last, leb-true t.first t.last order)
 
-tags_kept : (net : Network) (range : Option TagRange) → IsNetwork net → is_range range ≡ true → IsNetwork (with_tags net range)
-tags_kept net range is e = record {
-  same_count = is.same_count;
-  few = is.few;
-  names = is.names;
-  name_forms = is.name_forms;
-  capacities = is.capacities;
-  ports_once = is.ports_once;
-  ports = is.ports;
-  few_ports = is.few_ports;
-  vlans_once = is.vlans_once;
-  vlans = is.vlans;
-  few_vlans = is.few_vlans;
-  tags = range_shown range e;
-}
-
 tags_keep : (net more : Network) (top : Data) → IsNetwork net → tags_in net top ≡ Ok more → IsNetwork more
 unfolding tags_in range_in
 tags_keep net more top is e =
     let (range, read, e1) = bind_ok (range_in top) (λ range. Ok (with_tags net range)) more e in
     let (given, there, e2) = need_passed (option_and_then range_of (list_at (codes "tags") top)) (fault.Shape field.Tags 0) _ range read in
     let (right, e3) = check_passed (is_range given) fault.BadTags _ range e2 in
-    subst IsNetwork (ok_is {E = NetFault} (with_tags net range) more e1) (tags_kept net range is (subst (λ (r : Option TagRange). is_range r ≡ true) (ok_is {E = NetFault} given range e3) right))
+    subst IsNetwork (ok_is {E = NetFault} (with_tags net range) more e1) (tags_kept net is range (range_shown range (subst (λ (r : Option TagRange). is_range r ≡ true) (ok_is {E = NetFault} given range e3) right)))
 
 -- ---- the file
 

@@ -1,11 +1,10 @@
 -- The changes of a switch don't depend on the order of the rules; those of all switches are those of one after the other.
 use Rattle.std.proofs.Common.{◌≡◌, ◌⊎◌, ℕ, zero, suc, ◌+◌, ◌≤◌, List, [], ◌∷◌, ◌++◌, drop, length, refl, sym, ◌∙◌, subst, ap, inl, inr, arith, append_assoc, append-nil, add-one}
 use Rattle.std.specs.Prelude.{Some, None, filter_map, slice_get, IsPermutation}
-use Rattle.std.proofs.lemmas.List.Elements.{All-from_recursion, recursion_from_All}
-use Rattle.std.proofs.lemmas.List.Sorted.{All-permutation, IsPermutation-sym, IsPermutation-map}
+use Rattle.std.proofs.lemmas.List.Sorted.{IsPermutation-sym, IsPermutation-map}
 use Rattle.std.proofs.lemmas.Option.{none-some, same_Some}
 use Rattle.net_base.specs.Members.{IsIn}
-use Rattle.net_base.proofs.MemberLaws.{each_at, each_from_in, in_append_left, in_append_right, in_append_cases, in_map}
+use Rattle.net_base.proofs.MemberLaws.{in_permutation, in_append_left, in_append_right, in_append_cases, in_map}
 use Rattle.net_base.proofs.ListLaws.{told_from_distinct}
 use Rattle.net_base.specs.declared.ids.SwitchId.{SwitchId}
 use Rattle.flow_rules.specs.Tables.{TableState, keys_of, IsTable, rules_of_all}
@@ -18,28 +17,22 @@ use Rattle.update_model.proofs.RemainingLaws.{same_outside, rule_is, rule_none}
 use Rattle.update_model.proofs.DifferenceLaws.{HasKey, with_is}
 use Rattle.table_difference.proofs.OrderLaws.{table_moved}
 
--- a permutation has the same members
-moved_in : {A : Type 0} (xs ys : List A) (x : A) → IsPermutation xs ys → IsIn x ys → IsIn x xs
-moved_in {A} xs ys x moved i =
-    each_at (λ y. IsIn y xs) ys x
-    (recursion_from_All (λ y. IsIn y xs) ys (All-permutation (λ y. IsIn y xs) xs ys moved (All-from_recursion (λ y. IsIn y xs) xs (each_from_in (λ y. IsIn y xs) xs (λ y j. j))))) i
-
 module _ (rs qs : List Rule) (moved : IsPermutation rs qs) where
   back : IsPermutation qs rs
   back = IsPermutation-sym rs qs moved
 
   key_to : (k : Key) → IsIn k (keys_of rs) → IsIn k (keys_of qs)
-  key_to k i = moved_in (keys_of qs) (keys_of rs) k (IsPermutation-map (λ (r : Rule). r.key) qs rs back) i
+  key_to k i = in_permutation (keys_of qs) (keys_of rs) k (IsPermutation-map (λ (r : Rule). r.key) qs rs back) i
 
   key_back : (k : Key) → IsIn k (keys_of qs) → IsIn k (keys_of rs)
-  key_back k i = moved_in (keys_of rs) (keys_of qs) k (IsPermutation-map (λ (r : Rule). r.key) rs qs moved) i
+  key_back k i = in_permutation (keys_of rs) (keys_of qs) k (IsPermutation-map (λ (r : Rule). r.key) rs qs moved) i
 
   -- a table has the same rule with a key when its rules change places
   same_with : IsTable rs → (k : Key) → rule_with k rs ≡ rule_with k qs
   same_with table k =
       elim (rule_with k rs) as (λ o. HasKey k rs o → o ≡ rule_with k qs) [
         | None ↦ λ none. sym (rule_none qs k (λ r i e. none (key_back k (subst (λ x. IsIn x (keys_of qs)) e (in_map (λ x. x.key) r qs i)))))
-        | Some r ↦ λ h. sym (rule_is qs (told_from_distinct (λ x. x.key) qs (table_moved rs qs moved table)) k r (moved_in qs rs r back h.0) h.1)
+        | Some r ↦ λ h. sym (rule_is qs (told_from_distinct (λ x. x.key) qs (table_moved rs qs moved table)) k r (in_permutation qs rs r back h.0) h.1)
       ] (with_is k rs)
 
 module _ (now new now_moved new_moved : List Rule) (first : IsPermutation now now_moved) (second : IsPermutation new new_moved) where

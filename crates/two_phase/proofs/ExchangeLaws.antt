@@ -32,8 +32,8 @@ use Rattle.two_phase.proofs.LabelLaws.{IsOfVersion}
 use Rattle.two_phase.proofs.SweepLaws.{IsSweep, made_from, made_to, made_table, after_from, after_to, need_within, after_table, insert_good, inserted_kept, inserted_from, inserted_after}
 use Rattle.update_model.proofs.MatchLaws.{some_filter}
 use Rattle.two_phase.proofs.StageLaws.{tagged, ingress, Content, Holds, IsSound, room_for, IsUpward, IsBetween, banded_from, raw_in, in_all, outside_none}
-use Rattle.update_model.proofs.DifferenceLaws.{IsDifference, remaining_is, remaining_in, remaining_distinct, difference_switch, deletes_it, inserts_it, replaces_it, rule_same}
-use Rattle.flow_rules.proofs.TableLaws.{action_eq-refl, action_eq-true}
+use Rattle.update_model.proofs.DifferenceLaws.{IsDifference, remaining_is, remaining_in, remaining_distinct, difference_switch, deletes_it, inserts_it, replaces_it}
+use Rattle.flow_rules.proofs.TableLaws.{action_eq-refl, action_eq-true, rule_same}
 
 module _ (net : Network) (net_is : IsNetwork net) (tags : IsTagging net) (old new : List (List Rule)) (old_user : IsUserConfig net old) (new_user : IsUserConfig net new)
     (mark : SwitchId → Rule → ℕ) (layers : ℕ) (room : (s : SwitchId) → s.0 < switch_count net → two_phase_need net old new s ≤ capacity_of net s)

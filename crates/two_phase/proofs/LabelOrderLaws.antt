@@ -7,11 +7,11 @@ use Rattle.std.proofs.lemmas.Bool.{cond_both, ltb-true, ltb-false, eq-eqb, both_
 use Rattle.std.proofs.lemmas.Bool.Decides.{eqb_tells}
 use Rattle.std.proofs.lemmas.Option.{same_Some}
 use Rattle.std.proofs.lemmas.Grind.{flat_map-append}
-use Rattle.std.proofs.lemmas.List.Elements.{recursion_from_All, All-from_recursion}
-use Rattle.std.proofs.lemmas.List.Sorted.{All-permutation, IsPermutation-sym, IsPermutation-map}
+use Rattle.std.proofs.lemmas.List.Elements.{recursion_from_All}
+use Rattle.std.proofs.lemmas.List.Sorted.{IsPermutation-sym, IsPermutation-map}
 use Rattle.std.proofs.lemmas.Map.Keys.{IsDistinct-IsPermutation}
 use Rattle.net_base.specs.Members.{IsIn, IsDistinct, IsSameSet}
-use Rattle.net_base.proofs.MemberLaws.{each_at, each_from_in, each_weaker, in_map, in_from_map}
+use Rattle.net_base.proofs.MemberLaws.{each_at, each_from_in, each_weaker, in_map, in_from_map, in_permutation}
 use Rattle.net_base.proofs.ListLaws.{distinct_flat_map}
 use Rattle.net_base.specs.declared.ids.Vlan.{Vlan}
 use Rattle.net_base.specs.declared.ids.Vlan.TheVariants as vlan
@@ -104,10 +104,6 @@ same_test a b = grind arith
 distinct_moved : (ms ns : List ℕ) → IsPermutation ms ns → IsDistinct ms → IsDistinct ns
 distinct_moved ms ns moved distinct = distinct_from_apart ns (IsDistinct-IsPermutation (λ a b. a == b) same_test ms ns moved (apart_from_distinct ms distinct))
 
-pub members_moved : {A : Type 0} (xs ys : List A) → IsPermutation xs ys → (x : A) → IsIn x ys → IsIn x xs
-members_moved xs ys moved x i =
-    each_at (λ y. IsIn y xs) ys x (recursion_from_All (λ y. IsIn y xs) ys (All-permutation (λ y. IsIn y xs) xs ys moved (All-from_recursion (λ y. IsIn y xs) xs (each_from_in (λ y. IsIn y xs) xs (λ y j. j))))) i
-
 -- what is sorted and has no VLAN twice ascends
 ascend_sorted : (ls : List Label) → IsNonDecreasingBy number_of ls → IsDistinct (map number_of ls) → Ascend ls
 ascend_sorted [] sorted distinct = tt
@@ -127,8 +123,8 @@ pub sorted_is : (xs ys : List Label) → IsDistinct (map number_of xs) → IsPer
 sorted_is xs ys distinct moved sorted =
     same_ascent ys (labels_in_order xs) (ascend_sorted ys sorted (distinct_moved (map number_of xs) (map number_of ys) (IsPermutation-map number_of xs ys moved) distinct)) (ascend_in_order xs distinct)
     (λ l. (
-      λ i. in_labels l xs (members_moved xs ys moved l i),
-      λ i. members_moved ys xs (IsPermutation-sym xs ys moved) l (from_labels l xs i),
+      λ i. in_labels l xs (in_permutation xs ys l moved i),
+      λ i. in_permutation ys xs l (IsPermutation-sym xs ys moved) (from_labels l xs i),
     ))
 
 -- a VLAN is told by its place

@@ -6,10 +6,9 @@ use Rattle.std.specs.List.Sorted.{IsPermutation, IsPartitionedBy, IsPartitionPoi
 use Rattle.std.specs.declared.cmp.Ordering.{Ordering}
 use Rattle.std.specs.declared.cmp.Ordering.TheVariants.{Less, Equal, Greater}
 use Rattle.std.proofs.lemmas.Bool.{both_ways, cond_both, cond-true, cond-false, cases_lt, ltb-true, lt-ltb, le-ltb, leb-true, le-leb, lt-leb, eqb-true, eq-eqb, ne_eqb}
-use Rattle.std.proofs.lemmas.List.Sorted.{IsPermutation-sym, All-permutation}
-use Rattle.std.proofs.lemmas.List.Elements.{recursion_from_All, All-from_recursion}
+use Rattle.std.proofs.lemmas.List.Sorted.{IsPermutation-sym}
 use Rattle.net_base.specs.Members.{IsIn}
-use Rattle.net_base.proofs.MemberLaws.{in_map, in_from_map, in_from_filter, in_filter, each_at, each_from_in}
+use Rattle.net_base.proofs.MemberLaws.{in_map, in_from_map, in_from_filter, in_filter, each_at, in_permutation}
 use Rattle.flow_rules.specs.Order.{by_parts, key_cmp}
 use Rattle.flow_rules.specs.Tables.{IsTable, keys_of}
 use Rattle.flow_rules.specs.declared.rules.Key.{Key}
@@ -29,12 +28,6 @@ ascending_keys (r ∷ rs) up = (
       subst (IsKeyLess r.key) (sym e) (ap is_lt (each_at (λ x. key_cmp r.key x.key ≡ Less) rs q up.0 j)),
   ascending_keys rs up.1,
 )
-
--- members of a permutation
-permuted : {A : Type 0} (xs ys : List A) → IsPermutation xs ys → (x : A) → IsIn x ys → IsIn x xs
-permuted {A} xs ys same x i =
-    each_at (λ y. IsIn y xs) ys x
-    (recursion_from_All (λ y. IsIn y xs) ys (All-permutation (λ y. IsIn y xs) xs ys same (All-from_recursion (λ y. IsIn y xs) xs (each_from_in (λ y. IsIn y xs) xs (λ y j. j))))) i
 
 sorted_with_rule : (r : Rule) (rs : List Rule) → ¬ IsIn r.key (keys_of rs) → IsSorted (keys_of rs) → IsSorted (keys_of (with_rule r rs))
 sorted_with_rule r [] fresh sorted = (λ x i. absurd i, tt)
@@ -88,7 +81,7 @@ rules_unique (x ∷ xs) (y ∷ ys) a b to from =
 pub ascending_is : (xs ys : List Rule) → IsTable xs → IsPermutation xs ys → AreAscending ys → ys ≡ in_key_order xs
 ascending_is xs ys table same up =
     rules_unique ys (in_key_order xs) (ascending_keys ys up) (ordered_sorted xs table)
-    (λ r i. in_ordered r xs (permuted xs ys same r i)) (λ r i. permuted ys xs (IsPermutation-sym xs ys same) r (from_ordered r xs i))
+    (λ r i. in_ordered r xs (in_permutation xs ys r same i)) (λ r i. in_permutation ys xs r (IsPermutation-sym xs ys same) (from_ordered r xs i))
 
 sorted_filter : (p : Rule → Bool) (rs : List Rule) → IsSorted (keys_of rs) → IsSorted (keys_of (filter p rs))
 sorted_filter p [] sorted = tt

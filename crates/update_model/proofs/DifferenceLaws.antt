@@ -10,7 +10,6 @@ use Rattle.flow_rules.specs.Patterns.{key_eq}
 use Rattle.flow_rules.specs.Tables.{keys_of, IsTable, rules_at}
 use Rattle.flow_rules.specs.declared.rules.Key.{Key}
 use Rattle.flow_rules.specs.declared.rules.Rule.{Rule}
-use Rattle.flow_rules.specs.declared.rules.Action.{Action}
 use Rattle.flow_rules.proofs.KeyLaws.{key_eq-true, key_eq-refl}
 use Rattle.flow_rules.specs.Same.{action_eq}
 use Rattle.update_model.specs.Remaining.{keys_in_order, rule_with, difference, changes_between, changes_from, remaining_changes}
@@ -20,10 +19,6 @@ use Rattle.update_model.specs.declared.Change.TheVariants.{Insert, Delete, Repla
 use Rattle.update_model.proofs.ChangeLaws.{key_named}
 use Rattle.net_base.proofs.ListLaws.{found_is, in_filter_map, in_from_filter_map, told_from_distinct, distinct_append}
 use Rattle.update_model.proofs.KeyOrderLaws.{order_distinct, in_order}
-
-pub rule_same : (a b : Rule) → a.key ≡ b.key → a.action ≡ b.action → a ≡ b
-rule_same a b e f =
-    ap (λ (k : Key). let r : Rule = record { key = k; action = a.action } in r) e ∙ ap (λ (x : Action). let r : Rule = record { key = b.key; action = x } in r) f
 
 find_none_all : (p : Rule → Bool) (xs : List Rule) → find p xs ≡ None → (x : Rule) → IsIn x xs → p x ≡ false
 find_none_all p [] e x i = absurd i
