@@ -3,7 +3,7 @@ use Rattle.std.specs.Prelude.{ℕ, ◌<◌, List, codes, Result, Ok, Err, if◌t
 use Rattle.std.specs.Str.{bytes_eq, is_utf8}
 use Rattle.net_base.specs.Reading.{◌>>=◌, need}
 use Rattle.net_base.specs.Text.{cut_first}
-pub use Rattle.text_lines.specs.Words.{bytes_in}
+use Rattle.text_lines.specs.Words.{bytes_in}
 use Rattle.topology.specs.Networks.{Network, switch_count, switch_named}
 use Rattle.driver_input.specs.declared.fault.InputFault.{InputFault}
 use Rattle.driver_input.specs.declared.fault.InputFault.TheVariants.{BadLine}
