@@ -1,5 +1,5 @@
 -- Positions of chains, one chain after another, and before sets by their numbers.
-use Rattle.std.proofs.Common.{◌≡◌, ℕ, zero, suc, ◌+◌, ◌≤◌, List, [], ◌∷◌, ◌++◌, length, take, drop, Some, sym, ap, ◌∙◌, arith}
+use Rattle.std.proofs.Common.{◌≡◌, ℕ, zero, suc, ◌+◌, ◌≤◌, List, [], ◌∷◌, ◌++◌, length, set, replicate, take, drop, Some, refl, sym, ap, ◌∙◌, arith}
 use Rattle.std.specs.Prelude.{slice_get, slice_index_or, flat_map}
 use Rattle.std.proofs.lemmas.Option.{same_Some, none-some}
 use Rattle.std.proofs.lemmas.List.{drop-map, length-append, length-map}
@@ -20,6 +20,27 @@ module _ {A : Type 0} where
   take_next [] i x is = absurd (none-some x is)
   take_next (y ∷ xs) zero x is = ap (λ (z : A). z ∷ []) (same_Some y x is)
   take_next (y ∷ xs) (suc i) x is = let e : suc i + 1 ≡ suc (i + 1) = omega arith in ap (λ n. take n (y ∷ xs)) e ∙ ap (λ (zs : List A). y ∷ zs) (take_next xs i x is)
+
+  pub get_back : (xs ys : List A) (i : ℕ) → slice_get (xs ++ ys) (length xs + i) ≡ slice_get ys i
+  get_back [] ys i = ap (slice_get ys) (omega arith)
+  get_back (x ∷ xs) ys i = let e : length (x ∷ xs) + i ≡ suc (length xs + i) = omega arith in ap (slice_get (x ∷ xs ++ ys)) e ∙ get_back xs ys i
+
+  pub get_replicate : (count n : ℕ) (x y : A) → slice_get (replicate count x) n ≡ Some y → x ≡ y
+  get_replicate zero n x y e = absurd (none-some y e)
+  get_replicate (suc count) zero x y e = same_Some x y e
+  get_replicate (suc count) (suc n) x y e = get_replicate count n x y e
+
+  pub get_set_same : (xs : List A) (i : ℕ) (x y : A) → slice_get (set xs i x) i ≡ Some y → x ≡ y
+  get_set_same [] i x y e = absurd (none-some y e)
+  get_set_same (z ∷ xs) zero x y e = same_Some x y e
+  get_set_same (z ∷ xs) (suc i) x y e = get_set_same xs i x y e
+
+  pub get_set_other : (xs : List A) (i j : ℕ) (x : A) → ¬ (j ≡ i) → slice_get (set xs i x) j ≡ slice_get xs j
+  get_set_other [] i j x ne = refl
+  get_set_other (z ∷ xs) zero zero x ne = absurd (ne refl)
+  get_set_other (z ∷ xs) zero (suc j) x ne = refl
+  get_set_other (z ∷ xs) (suc i) zero x ne = refl
+  get_set_other (z ∷ xs) (suc i) (suc j) x ne = get_set_other xs i j x (λ e. ne (ap suc e))
 
 -- ---- how many positions
 

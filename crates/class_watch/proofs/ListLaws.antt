@@ -1,21 +1,15 @@
 -- Members of lists by their places.
-use Rattle.std.proofs.Common.{◌≡◌, ◌⊎◌, ℕ, zero, suc, ◌<◌, List, [], ◌∷◌, ◌++◌, length, get_or, set, Some, refl, sym, ap, ◌∙◌, subst, inl, inr, arith}
+use Rattle.std.proofs.Common.{◌≡◌, ◌⊎◌, ℕ, zero, suc, ◌<◌, List, [], ◌∷◌, ◌++◌, length, get_or, Some, refl, sym, ap, ◌∙◌, subst, inl, inr, arith}
 use Rattle.std.specs.Prelude.{slice_get}
 use Rattle.std.proofs.lemmas.Option.{same_Some, none-some, slice_get-get_or}
+use Rattle.net_base.specs.declared.ids.Vlan.TheVariants.{Untagged}
 use Rattle.dest_classes.specs.Classes.{ClassList, IsClass}
 use Rattle.dest_classes.specs.declared.Class.{Class}
+use Rattle.dest_classes.specs.declared.NumberedClass.{NumberedClass}
 
-pub get_set_same : {A : Type 0} (xs : List A) (i : ℕ) (x y : A) → slice_get (set xs i x) i ≡ Some y → x ≡ y
-get_set_same [] i x y e = absurd (none-some y e)
-get_set_same (z ∷ xs) zero x y e = same_Some x y e
-get_set_same (z ∷ xs) (suc i) x y e = get_set_same xs i x y e
-
-pub get_set_other : {A : Type 0} (xs : List A) (i j : ℕ) (x : A) → ¬ (j ≡ i) → slice_get (set xs i x) j ≡ slice_get xs j
-get_set_other [] i j x ne = refl
-get_set_other (z ∷ xs) zero zero x ne = absurd (ne refl)
-get_set_other (z ∷ xs) zero (suc j) x ne = refl
-get_set_other (z ∷ xs) (suc i) zero x ne = refl
-get_set_other (z ∷ xs) (suc i) (suc j) x ne = get_set_other xs i j x (λ e. ne (ap suc e))
+-- what a list of classes is read with past its end
+abbrev pub no_class : NumberedClass
+no_class = record { number = 0; class = record { entry = record { switch = record { 0 = 0 }; port = record { 0 = 0 }; vlan = Untagged }; first = 0 } }
 
 push_at : {A : Type 0} (xs : List A) (x : A) (n : ℕ) (y : A) → slice_get (xs ++ x ∷ []) n ≡ Some y → (slice_get xs n ≡ Some y) ⊎ ((n ≡ length xs) × (x ≡ y))
 push_at [] x zero y at = inr (refl, same_Some x y at)
@@ -40,3 +34,9 @@ classes_more classes list count next long each is n class at =
 -- what was read of a list
 pub read_at : {A : Type 0} (xs : List A) (n : ℕ) (x : A) → n < length xs → x ≡ get_or xs n x → slice_get xs n ≡ Some x
 read_at xs n x lt is = slice_get-get_or xs n x lt ∙ ap Some (sym is)
+
+-- what was read of a list of so many items
+pub read_of : {A : Type 0} (items list : List A) (n count : ℕ) (x : A) → items ≡ list → length list ≡ count → n < count → x ≡ get_or items n x → slice_get list n ≡ Some x
+read_of {A} items list n count x same long lt is =
+    let all = ap (λ (xs : List A). length xs) same in
+    ap (λ (xs : List A). slice_get xs n) (sym same) ∙ read_at items n x (omega arith) is

@@ -18,7 +18,8 @@ use Rattle.certificates.specs.declared.OrderedPick.{OrderedPick}
 use Rattle.check_reasons.specs.AtomMarks.{AreTouched}
 use Rattle.class_watch.specs.Classes.{AreClasses}
 use Rattle.class_watch.specs.Looked.{IsNext, AreNext, IsNextNumber}
-use Rattle.class_watch.proofs.ListLaws.{get_set_same, get_set_other, some_at}
+use Rattle.check_reasons.proofs.PositionLaws.{get_set_same, get_set_other}
+use Rattle.class_watch.proofs.ListLaws.{some_at, read_at}
 
 -- ---- marks
 
@@ -139,7 +140,13 @@ linked_more marks atom after first next linked within is = record {
 
 -- ---- numbers of classes
 
-module _ (marks : List Bool) (nexts : List ℕ) (are : AreNext marks nexts) (number in_row : ℕ) (at : slice_get nexts (number % length marks) ≡ Some in_row) where
+module _ (marks : List Bool) (nexts : List ℕ) (are : AreNext marks nexts) (number in_row : ℕ) (read : in_row ≡ get_or nexts (number % length marks) in_row) where
+  at : slice_get nexts (number % length marks) ≡ Some in_row
+  at =
+      let low = mod_below number (length marks) are.some in
+      let count = are.count in
+      read_at nexts (number % length marks) in_row (omega arith) read
+
   -- up to the next marked atom in the row of a number
   pub passed_in_row : (n : ℕ) → number ≤ n → n < number - number % length marks + in_row → get_or marks (n % length marks) false ≡ false
   passed_in_row n ge lt =

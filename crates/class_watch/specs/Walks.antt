@@ -1,5 +1,5 @@
 -- Where packets of a class come, and which changes they may meet there.
-use Rattle.std.specs.Prelude.{◌&&◌, ℕ, Bool, IsTrue, List, []}
+use Rattle.std.specs.Prelude.{◌≡◌, ◌&&◌, ℕ, zero, suc, Bool, IsTrue, List, [], slice_get, Some}
 use Rattle.std.specs.List.{list_any}
 use Rattle.net_base.specs.declared.ids.Place.{Place}
 use Rattle.topology.specs.Networks.{Network}
@@ -14,6 +14,16 @@ use Rattle.net_base.specs.Switches.{has}
 -- the set has each switch that the mixed walks of the class come to in round k
 abbrev pub HoldsWalks : Rollout → ℕ → Class → ℕ → Type 0
 HoldsWalks u k class set = (place : Place) → IsOnMixedWalk u k class.first class.entry place → IsTrue (has set place.switch)
+
+-- the set holds the walks of the class in the round before round k; before the first round nothing is asked for
+abbrev pub HoldsWalksBefore : Rollout → ℕ → Class → ℕ → Type 0
+HoldsWalksBefore u zero class set = Unit {0}
+HoldsWalksBefore u (suc k) class set = HoldsWalks u k class set
+
+-- so for each class, with its set
+abbrev pub WalksStand : Rollout → ℕ → List Class → List ℕ → Type 0
+WalksStand u k classes came =
+    (n : ℕ) (class : Class) (set : ℕ) → slice_get classes n ≡ Some class → slice_get came n ≡ Some set → HoldsWalksBefore u k class set
 
 -- the tables, with no round
 abbrev pub at_rest : Network → List (List Rule) → Rollout

@@ -1,10 +1,9 @@
 -- Lists that go on: what stood there stays.
-use Rattle.std.proofs.Common.{◌≡◌, ℕ, zero, suc, ◌≤◌, List, [], ◌∷◌, ◌++◌, length, set, Some, refl, sym, ap, ◌∙◌, inl, inr, arith}
+use Rattle.std.proofs.Common.{◌≡◌, ℕ, zero, suc, ◌≤◌, List, [], ◌∷◌, ◌++◌, length, Some, refl, sym, ap, ◌∙◌, arith}
 use Rattle.std.specs.Prelude.{slice_get}
 use Rattle.std.specs.List.{AllByRecursion}
-use Rattle.std.proofs.lemmas.Option.{same_Some, none-some}
-use Rattle.net_base.specs.Members.{IsIn, IsDistinct, IsPrefix}
-use Rattle.net_base.proofs.MemberLaws.{in_append_cases}
+use Rattle.std.proofs.lemmas.Option.{none-some}
+use Rattle.net_base.specs.Members.{IsPrefix}
 use Rattle.certificates.specs.Valid.{IsChain}
 
 module _ {A : Type 0} where
@@ -32,15 +31,3 @@ module _ {A : Type 0} where
   chain_push before [] x h k = tt
   chain_push before (y ∷ []) x h k = (k.0, tt)
   chain_push before (y ∷ z ∷ xs) x h k = (h.0, chain_push before (z ∷ xs) x h.1 k.1)
-
-  pub get_set_same : (xs : List A) (i : ℕ) (x y : A) → slice_get (set xs i x) i ≡ Some y → x ≡ y
-  get_set_same [] i x y e = absurd (none-some y e)
-  get_set_same (z ∷ xs) zero x y e = same_Some x y e
-  get_set_same (z ∷ xs) (suc i) x y e = get_set_same xs i x y e
-
-  pub get_set_other : (xs : List A) (i j : ℕ) (x : A) → ¬ (j ≡ i) → slice_get (set xs i x) j ≡ slice_get xs j
-  get_set_other [] i j x ne = refl
-  get_set_other (z ∷ xs) zero zero x ne = absurd (ne refl)
-  get_set_other (z ∷ xs) zero (suc j) x ne = refl
-  get_set_other (z ∷ xs) (suc i) zero x ne = refl
-  get_set_other (z ∷ xs) (suc i) (suc j) x ne = get_set_other xs i j x (λ e. ne (ap suc e))

@@ -1,16 +1,17 @@
 -- The use in force of each class, and one pick more.
-use Rattle.std.proofs.Common.{◌≡◌, ◌≢◌, ℕ, zero, suc, ◌<◌, ◌≤◌, List, [], ◌∷◌, ◌++◌, length, get_or, set, replicate, Option, Some, None, refl, sym, ap, ◌∙◌, subst, inl, inr, arith}
+use Rattle.std.proofs.Common.{◌≡◌, ◌≢◌, ℕ, ◌<◌, ◌≤◌, List, [], ◌∷◌, ◌++◌, length, get_or, set, replicate, Option, Some, None, refl, sym, ap, ◌∙◌, subst, inl, inr, arith}
 use Rattle.std.specs.Prelude.{slice_get, IfSome, IfNone}
 use Rattle.std.specs.List.{AllByRecursion}
 use Rattle.std.proofs.lemmas.Bool.{cases_eq}
-use Rattle.std.proofs.lemmas.Option.{same_Some, none-some, slice_get_read}
+use Rattle.std.proofs.lemmas.Option.{slice_get_read}
 use Rattle.net_base.specs.Members.{IsIn}
 use Rattle.net_base.proofs.MemberLaws.{each_at, each_weaker, in_append_left, in_append_right, in_append_cases}
 use Rattle.certificates.specs.Ordered.{IsPickInForce}
 use Rattle.certificates.specs.Valid.{IsPickBefore}
 use Rattle.certificates.specs.declared.OrderedPick.{OrderedPick}
+use Rattle.certificates.proofs.PickLaws.{other_class}
+use Rattle.check_reasons.proofs.PositionLaws.{get_replicate, get_set_same, get_set_other}
 use Rattle.evidence_store.specs.State.{IsLatest, IsUseInForce, AreInForce}
-use Rattle.evidence_store.proofs.ListLaws.{get_set_same, get_set_other}
 
 module _ (front : List OrderedPick) (p : OrderedPick) where
   here_latest : AllByRecursion (λ q. q.round ≤ p.round) front → IsLatest (front ++ p ∷ []) p.class p.shared
@@ -31,20 +32,13 @@ module _ (front : List OrderedPick) (p : OrderedPick) where
       last_one other (inr none) = absurd none
 
   -- a pick of another class changes nothing
-  other_class : (other : OrderedPick) (n : ℕ) → ¬ (n ≡ p.class) → other.class ≡ n → IsIn other (front ++ p ∷ []) → IsIn other front
-  other_class other n ne of_class i =
-      elim (in_append_cases other front (p ∷ []) i) [
-        | inl j ↦ j
-        | inr j ↦ absurd (elim j [ inl e ↦ ne (sym of_class ∙ ap (λ (q : OrderedPick). q.class) e) | inr none ↦ none ])
-      ]
-
   still_in_force : (n : ℕ) (use_ : Option ℕ) → ¬ (n ≡ p.class) → IsUseInForce front n use_ → IsUseInForce (front ++ p ∷ []) n use_
-  still_in_force n None ne h = λ pick i of_class. h pick (other_class pick n ne of_class i) of_class
+  still_in_force n None ne h = λ pick i of_class. h pick (other_class front p pick n ne of_class i) of_class
   still_in_force n (Some use_) ne h = record {
     pick = h.pick;
     stands = in_append_left h.pick front (p ∷ []) h.stands;
     of_class = h.of_class;
-    latest = λ other i same. h.latest other (other_class other n ne same i) same;
+    latest = λ other i same. h.latest other (other_class front p other n ne same i) same;
     shared_is = h.shared_is;
   }
 
@@ -66,11 +60,6 @@ pub in_force_more : (front picks : List OrderedPick) (p : OrderedPick) (uses : L
 in_force_more front picks p uses more behind h =
     subst (λ (ps : List OrderedPick). AreInForce ps (set uses p.class (Some p.shared))) (sym more)
     (noted front p uses (each_weaker (λ (q : OrderedPick). IsPickBefore q p) (λ (q : OrderedPick). q.round ≤ p.round) (no_later p) front behind) h)
-
-get_replicate : {A : Type 0} (count n : ℕ) (x y : A) → slice_get (replicate count x) n ≡ Some y → x ≡ y
-get_replicate zero n x y e = absurd (none-some y e)
-get_replicate (suc count) zero x y e = same_Some x y e
-get_replicate (suc count) (suc n) x y e = get_replicate count n x y e
 
 -- without picks no use is in force
 pub none_in_force : (count : ℕ) → AreInForce [] (replicate count None)

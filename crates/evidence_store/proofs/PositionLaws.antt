@@ -7,7 +7,7 @@ use Rattle.net_base.specs.declared.ids.SwitchId.{SwitchId}
 use Rattle.net_base.proofs.MemberLaws.{each_first, each_last, each_append}
 use Rattle.certificates.specs.Ordered.{Position, chain_positions, positions}
 use Rattle.check_reasons.specs.Positions.{position_count}
-use Rattle.check_reasons.proofs.PositionLaws.{split_at, take_next, count_chain}
+use Rattle.check_reasons.proofs.PositionLaws.{split_at, take_next, get_back, count_chain}
 
 -- ---- places of lists
 
@@ -20,10 +20,6 @@ module _ {A : Type 0} where
   drop_within zero xs ys le = refl
   drop_within (suc n) [] ys le = absurd (omega arith)
   drop_within (suc n) (x ∷ xs) ys le = drop_within n xs ys (omega arith)
-
-  get_back : (xs ys : List A) (i : ℕ) → slice_get (xs ++ ys) (length xs + i) ≡ slice_get ys i
-  get_back [] ys i = ap (slice_get ys) (omega arith)
-  get_back (x ∷ xs) ys i = let e : length (x ∷ xs) + i ≡ suc (length xs + i) = omega arith in ap (slice_get (x ∷ xs ++ ys)) e ∙ get_back xs ys i
 
   last_of : (x : A) (xs : List A) → slice_get (x ∷ xs) (length xs) ≡ last_or (Some x) xs
   last_of x [] = refl

@@ -111,8 +111,14 @@ pub fn keeps_safe(
         named.entry.numbering.now sets }
 {
     net.keeps_rules();
-    all_lower(named.numbering, walk.steps())
-        && !drops_what_must_arrive(duties, numbered, walk)
-        && has_positions(duties, numbered, named.indices.len())
-        && guards_all(walk, duties, numbered, named.befores, named.indices)
+    if !all_lower(named.numbering, walk.steps()) {
+        return false;
+    }
+    if drops_what_must_arrive(duties, numbered, walk) {
+        return false;
+    }
+    if !has_positions(duties, numbered, named.indices.len()) {
+        return false;
+    }
+    guards_all(walk, duties, numbered, named.befores, named.indices)
 }

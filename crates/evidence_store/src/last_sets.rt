@@ -93,7 +93,7 @@ impl ClassSets {
         ensures steps { result ≡ true → self.now.steps ≡ walk.now.steps }
         ensures leaving { result ≡ true → self.now.leaving ≡ walk.now.leaving }
     {
-        self.steps.as_slice() == walk.steps() && self.leaving.as_slice() == walk.leaving()
+        walk.has_noted(self.steps.as_slice(), self.leaving.as_slice())
     }
 
     /// Whether a class has the start and the duties of the class of these sets.

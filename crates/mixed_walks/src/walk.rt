@@ -1,5 +1,5 @@
 //! The mixed walks of a class in a round.
-ghost use Rattle.std.specs.Prelude.{◌≡◌, ◌↔◌, ℕ, ◌+◌, ◌<◌, [], length, All, IfOk};
+ghost use Rattle.std.specs.Prelude.{◌≡◌, ◌↔◌, ℕ, ◌+◌, ◌<◌, [], length, All, IfOk, IsTrue};
 ghost use Rattle.net_base.specs.Members.{IsIn};
 ghost use Rattle.net_base.specs.Places.{stop_of};
 ghost use Rattle.net_base.specs.declared.ids.SwitchId.{SwitchId};
@@ -71,6 +71,14 @@ impl WalkRoom {
         ensures { result.now ≡ self.now.leaving }
     {
         self.noted.leaving()
+    }
+
+    /// Whether these are the steps and the switches where a packet may leave, in the order in which they were noted.
+    pub fn has_noted(&self, steps: &[Edge], leaving: &[SwitchId]) -> bool
+        ensures { IsTrue result
+            ↔ (self.now.steps ≡ steps.now) × (self.now.leaving ≡ leaving.now) }
+    {
+        self.steps() == steps && self.leaving() == leaving
     }
 
     /// The switches where a packet may be discarded on them, each once.

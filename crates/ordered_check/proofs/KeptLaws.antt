@@ -1,5 +1,5 @@
 -- What is kept of the classes from round to round: the switches that their walks came to.
-use Rattle.std.proofs.Common.{◌≡◌, ◌≢◌, ℕ, suc, ◌+◌, ◌<◌, ◌≤◌, Bool, true, false, List, length, get_or, set, Option, Some, None, IfNone, IfSome, sym, ap, ◌∙◌, subst, inl, inr, arith}
+use Rattle.std.proofs.Common.{◌≡◌, ◌≢◌, ℕ, suc, ◌+◌, ◌%◌, ◌<◌, ◌≤◌, Bool, true, false, List, length, get_or, set, Option, Some, None, IfNone, IfSome, sym, ap, ◌∙◌, subst, inl, inr, arith}
 use Rattle.std.specs.Prelude.{slice_get, if◌then◌else◌, nat_lt}
 use Rattle.std.proofs.lemmas.Bool.{cases_lt}
 use Rattle.std.proofs.lemmas.Option.{slice_get_within}
@@ -13,12 +13,13 @@ use Rattle.certificates.specs.Valid.{IsChain, IsPickBefore}
 use Rattle.certificates.specs.declared.OrderedEvidence.{OrderedEvidence}
 use Rattle.check_reasons.specs.Reasons.{class_duties}
 use Rattle.check_reasons.specs.declared.reason.Reason.{Reason}
-use Rattle.check_reasons.specs.AtomMarks.{AreTouched}
+use Rattle.check_reasons.specs.Touched.{touches}
+use Rattle.check_reasons.specs.AtomMarks.{AreTouched, is_marked}
 use Rattle.ordered_check.specs.Guarded.{HoldsGuarded}
 use Rattle.class_watch.specs.Classes.{AreClasses}
-use Rattle.class_watch.specs.Walks.{HoldsWalks}
-use Rattle.class_watch.proofs.ListLaws.{some_at, read_at}
-use Rattle.ordered_check.specs.Kept.{OrderedState, HasClassRoom, WalksStand, IsSettledBy, AreSettled}
+use Rattle.class_watch.specs.Walks.{HoldsWalks, WalksStand}
+use Rattle.class_watch.proofs.ListLaws.{some_at, read_of}
+use Rattle.ordered_check.specs.Kept.{OrderedState, HasClassRoom, IsSettledBy, AreSettled}
 use Rattle.ordered_check.specs.Firsts.{first_of, IsFirstOfClass, IsFoundBelow}
 use Rattle.ordered_check.proofs.RoundLaws.{found_more}
 
@@ -133,18 +134,25 @@ module _ (t : Task) (e : OrderedEvidence) (k : ℕ) where
         (ap (λ (bs : List Bool). slice_get bs below) (sym judged.settled) ∙ at)
 
   -- after all classes
-  pub walks_after : (found : Option Reason) (old new : OrderedState) → HasClassRoom (classes_for t) old → AreJudged (class_count (classes_for t)) found old new → IfNone found (WalksStand (rollout t) (suc k) new)
+  pub walks_after : (found : Option Reason) (old new : OrderedState) → HasClassRoom (classes_for t) old → AreJudged (class_count (classes_for t)) found old new → IfNone found (WalksStand (rollout t) (suc k) new.classes new.came)
   walks_after found old new room judged =
-      none_then found (AreWalkedBelow (class_count (classes_for t)) new) (WalksStand (rollout t) (suc k) new) judged.walked
+      none_then found (AreWalkedBelow (class_count (classes_for t)) new) (WalksStand (rollout t) (suc k) new.classes new.came) judged.walked
       (λ below n class set is came.
       let within = slice_get_within new.classes n class is in
       let count = ap (λ (cs : List Class). length cs) judged.classes ∙ room.classes_are.count in
       below n class set (omega arith) is came)
 
 -- the class that was read is the one of the number
-module _ (t : Task) (n : ℕ) (state : OrderedState) (items : List Class) (items_are : items ≡ state.classes) (class : Class) (within : n < length items) (read : class ≡ get_or items n class) where
+module _ (t : Task) (n : ℕ) (state : OrderedState) (items : List Class) (items_are : items ≡ state.classes) (class : Class) (read : class ≡ get_or items n class)
+    (number : n < class_count (classes_for t)) (room : HasClassRoom (classes_for t) state) where
   pub class_at : slice_get state.classes n ≡ Some class
-  class_at = ap (λ (cs : List Class). slice_get cs n) (sym items_are) ∙ read_at items n class within read
+  class_at = read_of items state.classes n (class_count (classes_for t)) class items_are room.classes_are.count number read
 
-  pub is_at : HasClassRoom (classes_for t) state → IsClass (classes_for t) n class
-  is_at room = room.classes_are.each n class class_at
+  pub is_at : IsClass (classes_for t) n class
+  is_at = room.classes_are.each n class class_at
+
+  -- whether the round touches it is what the mark of its atom says
+  pub touched_at : (round : List Change) (atom : ℕ) (mark : Bool) → AreTouched (classes_for t) round state.touched → atom ≡ n % length state.looked → mark ≡ is_marked state.touched atom
+      → mark ≡ touches round class.first
+  touched_at round atom mark touched atom_is mark_is =
+      mark_is ∙ ap (is_marked state.touched) (atom_is ∙ ap (λ (m : ℕ). n % m) (room.looked (omega arith))) ∙ touched n class is_at

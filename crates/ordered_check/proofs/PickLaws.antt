@@ -3,15 +3,14 @@ use Rattle.std.proofs.Common.{◌≡◌, ℕ, zero, suc, ◌+◌, ◌<◌, ◌�
 use Rattle.std.specs.Prelude.{slice_get}
 use Rattle.std.specs.List.{AllByRecursion}
 use Rattle.std.proofs.lemmas.Bool.{cases_eq}
-use Rattle.std.proofs.lemmas.Option.{same_Some, none-some}
-use Rattle.std.proofs.lemmas.List.{take_more, take-append-drop, drop_all, append-nil, take_all}
+use Rattle.std.proofs.lemmas.List.{take_more, take-append-drop}
 use Rattle.net_base.specs.Members.{IsIn}
 use Rattle.net_base.proofs.MemberLaws.{each_at, each_weaker, each_append, in_append_left, in_append_right, in_append_cases}
 use Rattle.certificates.proofs.Chains.{all_at}
 use Rattle.certificates.specs.Valid.{IsChain, IsPickBefore}
 use Rattle.certificates.specs.declared.OrderedPick.{OrderedPick}
-use Rattle.certificates.proofs.PickLaws.{chain_rest}
-use Rattle.class_watch.proofs.ListLaws.{get_set_same, get_set_other}
+use Rattle.certificates.proofs.PickLaws.{chain_rest, other_class}
+use Rattle.check_reasons.proofs.PositionLaws.{get_replicate, get_set_same, get_set_other}
 use Rattle.ordered_check.specs.Picks.{PicksState, PicksStand, IsKeptPick}
 
 -- ---- picks in order
@@ -72,19 +71,12 @@ module _ (front : List OrderedPick) (p : OrderedPick) where
       last_one other (inr none) = absurd none
 
   -- a pick of another class changes nothing
-  other_class : (other : OrderedPick) (n : ℕ) → ¬ (n ≡ p.class) → other.class ≡ n → IsIn other (front ++ p ∷ []) → IsIn other front
-  other_class other n ne of_class i =
-      elim (in_append_cases other front (p ∷ []) i) [
-        | inl j ↦ j
-        | inr j ↦ absurd (elim j [ inl e ↦ ne (sym of_class ∙ ap (λ (q : OrderedPick). q.class) e) | inr none ↦ none ])
-      ]
-
   still_latest : (n : ℕ) (kept : Option OrderedPick) → ¬ (n ≡ p.class) → IsLatestPick front n kept → IsLatestPick (front ++ p ∷ []) n kept
-  still_latest n None ne h = λ pick i of_class. h pick (other_class pick n ne of_class i) of_class
+  still_latest n None ne h = λ pick i of_class. h pick (other_class front p pick n ne of_class i) of_class
   still_latest n (Some pick) ne h = record {
     stands = in_append_left pick front (p ∷ []) h.stands;
     of_class = h.of_class;
-    latest = λ other i same. h.latest other (other_class other n ne same i) same;
+    latest = λ other i same. h.latest other (other_class front p other n ne same i) same;
   }
 
   -- one more pick, noted for its class
@@ -151,17 +143,6 @@ taken_more picks round next of_class p d chain lt is le taken =
       begun = subst (AllByRecursion (λ (q : OrderedPick). q.round ≤ round)) (sym more) (each_append (λ (q : OrderedPick). q.round ≤ round) (take next picks) (p ∷ []) taken.begun (le, tt));
       kept = subst (λ (ps : List OrderedPick). AreKept ps (set of_class p.class (Some p))) (sym more) (kept_more (take next picks) p of_class front taken.kept);
     }
-
--- what a slice of a whole list writes back
-pub written_back : {A : Type 0} (len : ℕ) (new items : List A) → length new ≡ length items → length items ≡ len → take len (new ++ drop (length new) items) ≡ new
-written_back {A} len new items same is =
-    let e : new ++ drop (length new) items ≡ new = ap (λ (xs : List A). new ++ xs) (drop_all (length new) items (omega arith)) ∙ append-nil new in
-    ap (take len) e ∙ take_all len new (omega arith)
-
-pub get_replicate : {A : Type 0} (count n : ℕ) (x y : A) → slice_get (replicate count x) n ≡ Some y → x ≡ y
-get_replicate zero n x y e = absurd (none-some y e)
-get_replicate (suc count) zero x y e = same_Some x y e
-get_replicate (suc count) (suc n) x y e = get_replicate count n x y e
 
 -- before the first round no pick is in force
 pub none_begun : (picks : List OrderedPick) (state : PicksState) (count : ℕ) → AllByRecursion (λ p. 1 ≤ p.round) picks → state.next ≡ 0 → state.of_class ≡ replicate count None → PicksStand picks 0 state

@@ -23,10 +23,9 @@ use Rattle.check_reasons.specs.Passed.{ChangesPass, RoundsPass, RoundKeepsVlans}
 use Rattle.check_reasons.specs.Reasons.{class_duties}
 use Rattle.mixed_walks.specs.Walks.{KeepVlansUpTo, TablesKeepVlans, IsRoundOf}
 use Rattle.mixed_walks.proofs.PlaceLaws.{tables_keep}
-use Rattle.class_watch.specs.Walks.{HoldsWalks, meets_any}
+use Rattle.class_watch.specs.Walks.{HoldsWalks, meets_any, HoldsWalksBefore}
 use Rattle.class_watch.proofs.StandLaws.{next_held, next_safe}
 use Rattle.ordered_check.specs.Picks.{IsKeptPick}
-use Rattle.ordered_check.specs.Kept.{HoldsWalksBefore}
 use Rattle.certificates.proofs.PickLaws.{one_in_force}
 
 -- ---- the certificate

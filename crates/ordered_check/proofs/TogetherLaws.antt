@@ -1,8 +1,8 @@
 -- Classes that are walked together: each has its certificate where all that was walked is safe.
 use Rattle.std.proofs.Common.{◌≡◌, ◌≢◌, ℕ, zero, suc, ◌<◌, Bool, true, List, [], ◌∷◌, ◌++◌, length, set, Option, Some, None, refl, sym, ap, ◌∙◌, subst, inl, inr, arith}
-use Rattle.std.specs.Prelude.{slice_get, ◌==◌, IfSome}
+use Rattle.std.specs.Prelude.{slice_get, IfSome}
 use Rattle.std.specs.List.{AllByRecursion, AllZip}
-use Rattle.std.proofs.lemmas.Bool.{cases_lt, cases_eq, eqb-true}
+use Rattle.std.proofs.lemmas.Bool.{cases_lt, cases_eq}
 use Rattle.std.proofs.lemmas.Option.{same_Some}
 use Rattle.net_base.specs.Members.{IsIn}
 use Rattle.net_base.specs.declared.ids.SwitchId.{SwitchId}
@@ -10,7 +10,6 @@ use Rattle.net_base.proofs.MemberLaws.{each_at, in_append_left, in_append_right,
 use Rattle.net_base.proofs.ItemLaws.{in_from_get}
 use Rattle.net_base.specs.Places.{stop_of}
 use Rattle.net_base.specs.declared.ids.Vlan.{Vlan}
-use Rattle.net_base.specs.declared.ids.Vlan.TheVariants.{Untagged}
 use Rattle.topology.specs.Networks.{IsUsed}
 use Rattle.update_model.specs.Mixtures.{Rollout}
 use Rattle.acyclic_numbering.specs.Heights.{number_of as number_at}
@@ -32,7 +31,7 @@ use Rattle.check_reasons.specs.Reasons.{class_duties}
 use Rattle.mixed_walks.specs.Walks.{WalkState, Covers, AreTogether}
 use Rattle.class_watch.specs.Classes.{AreClasses}
 use Rattle.class_watch.specs.Walks.{HoldsWalks}
-use Rattle.class_watch.proofs.ListLaws.{get_set_other}
+use Rattle.check_reasons.proofs.PositionLaws.{get_set_other}
 use Rattle.ordered_check.specs.Kept.{OrderedState, IsSettledBy, AreSettled}
 use Rattle.ordered_check.specs.Together.{IsMember, AreMembers, AreGathered, AreSafe, AreSettledWith}
 use Rattle.ordered_check.specs.declared.together.Group.{Group}
@@ -45,11 +44,6 @@ use_within t e round n pick valid force = (each_at (IsValidPick (length t.rounds
 pub group_within : (t : Task) (e : OrderedEvidence) (k : ℕ) (group : Group) (m : NumberedClass) → IsValidOrdered t.update.net (length t.rounds) e → IsMember t e k group m → group.shared < length e.uses
 group_within t e k group m valid member =
     subst (λ (i : ℕ). i < length e.uses) member.of_group.shared (use_within t e (suc k) m.number member.pick valid member.in_force)
-
--- a list of no members
-pub empty_list : {A : Type 0} (xs : List A) → (length xs == 0) ≡ true → xs ≡ []
-empty_list [] e = refl
-empty_list (x ∷ xs) e = let f = eqb-true (suc (length xs)) 0 e in absurd (omega arith)
 
 -- a list of two has a first
 pub some_member : {A : Type 0} (xs : List A) → 0 < length xs → (x : A) × IsIn x xs
@@ -109,10 +103,6 @@ module _ (t : Task) (e : OrderedEvidence) (k : ℕ) (group : Group) (m : Numbere
   member_walks marks held = held (together_at (rollout t) k group.address m.class.first group.vlan group.vlan noted (sym member.of_group.address) refl together) entry
 
 -- ---- walking
-
--- what a list is read with past its end
-abbrev pub no_class : NumberedClass
-no_class = record { number = 0; class = record { entry = record { switch = record { 0 = 0 }; port = record { 0 = 0 }; vlan = Untagged }; first = 0 } }
 
 -- the entry of a class is at a host port
 pub host_used : (t : Task) (n : ℕ) (class : Class) → IsClass (classes_for t) n class → IsUsed t.update.net (stop_of class.entry)

@@ -7,7 +7,7 @@ use Rattle.std.proofs.lemmas.List.{append_assoc, append-nil, drop-drop, length-a
 use Rattle.net_base.specs.declared.ids.SwitchId.{SwitchId}
 use Rattle.certificates.specs.Ordered.{Position, chain_positions, positions}
 use Rattle.check_reasons.specs.Positions.{position_count, set_before}
-use Rattle.check_reasons.proofs.PositionLaws.{take_next, count_fits}
+use Rattle.check_reasons.proofs.PositionLaws.{take_next, get_back, count_fits}
 use Rattle.ordered_check.specs.Judged.{AreGuardedBelow, IsFirstWayRound}
 use Rattle.ordered_check.specs.declared.ways.WayRound.{WayRound}
 
@@ -18,10 +18,6 @@ module _ {A : Type 0} where
   get_front [] ys i lt = absurd (omega arith)
   get_front (x ∷ xs) ys zero lt = refl
   get_front (x ∷ xs) ys (suc i) lt = get_front xs ys i (omega arith)
-
-  pub get_back : (xs ys : List A) (i : ℕ) → slice_get (xs ++ ys) (length xs + i) ≡ slice_get ys i
-  get_back [] ys i = ap (slice_get ys) (omega arith)
-  get_back (x ∷ xs) ys i = let e : length (x ∷ xs) + i ≡ suc (length xs + i) = omega arith in ap (slice_get (x ∷ xs ++ ys)) e ∙ get_back xs ys i
 
 -- ---- the positions of one chain
 

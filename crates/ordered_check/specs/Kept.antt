@@ -1,17 +1,16 @@
 -- What is kept of the classes of an ordered plan while its rounds are checked: beside the picks in force and what was found
 -- guarded the classes, and for each class the switches that its last walk came to, and whether it is settled; for each atom
 -- whether the round touches it, and whether its classes are looked at; and the classes that are walked together.
-use Rattle.std.specs.Prelude.{◌≡◌, ◌<◌, ℕ, zero, suc, Bool, true, false, List, length, slice_get, Some}
+use Rattle.std.specs.Prelude.{◌≡◌, ◌<◌, ℕ, Bool, true, false, List, length, slice_get, Some}
 use Rattle.dest_classes.specs.Classes.{ClassList, class_count, atom_count}
 use Rattle.dest_classes.specs.declared.Class.{Class}
 use Rattle.dest_classes.specs.declared.NumberedClass.{NumberedClass}
-use Rattle.update_model.specs.Mixtures.{Rollout}
 use Rattle.certificates.specs.Ordered.{OrderedCertificate}
 use Rattle.certificates.specs.Updates.{Task, rollout}
 use Rattle.certificates.specs.declared.OrderedEvidence.{OrderedEvidence}
 use Rattle.check_reasons.specs.Reasons.{class_duties}
 use Rattle.class_watch.specs.Classes.{AreClasses}
-use Rattle.class_watch.specs.Walks.{HoldsWalks}
+use Rattle.class_watch.specs.Walks.{HoldsWalks, HoldsWalksBefore}
 use Rattle.ordered_check.specs.Guarded.{GuardedState}
 use Rattle.ordered_check.specs.Picks.{PicksState, HasPickRoom}
 
@@ -36,18 +35,6 @@ pub record HasClassRoom (classes : ClassList) (state : OrderedState) : Type 0 wh
   pub looked : 0 < class_count classes → length state.looked ≡ atom_count classes
   pub came : length state.came ≡ class_count classes
   pub settled : length state.settled ≡ class_count classes
-
--- the set has each switch that a mixed walk of the class comes to in the round before round k; before the first round nothing
--- is asked for
-abbrev pub HoldsWalksBefore : Rollout → ℕ → Class → ℕ → Type 0
-HoldsWalksBefore u zero class set = Unit {0}
-HoldsWalksBefore u (suc k) class set = HoldsWalks u k class set
-
--- the set of each class holds its walks of the round before round k
-abbrev pub WalksStand : Rollout → ℕ → OrderedState → Type 0
-WalksStand u k state =
-    (n : ℕ) (class : Class) (set : ℕ) → slice_get state.classes n ≡ Some class → slice_get state.came n ≡ Some set
-    → HoldsWalksBefore u k class set
 
 -- a class that is settled in round k has its certificate there, and the set holds its walks of then; of another those of the
 -- round before

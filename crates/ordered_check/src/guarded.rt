@@ -71,7 +71,7 @@ impl GuardedWalks {
         ensures steps { result ≡ true → self.now.steps ≡ walk.now.steps }
         ensures leaving { result ≡ true → self.now.leaving ≡ walk.now.leaving }
     {
-        self.steps.as_slice() == walk.steps() && self.leaving.as_slice() == walk.leaving()
+        walk.has_noted(self.steps.as_slice(), self.leaving.as_slice())
     }
 
     /// Whether the positions of a class are known to be guarded where its walks are those that were walked last: the class that

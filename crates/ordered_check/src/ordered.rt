@@ -17,8 +17,8 @@ ghost use Rattle.ordered_check.specs.Picks.{IsKeptPick, PicksStand};
 ghost use Rattle.check_reasons.specs.AtomMarks.{AreTouched};
 ghost use Rattle.ordered_check.specs.Looked.{AreLookedAt};
 ghost use Rattle.class_watch.specs.Classes.{AreClasses};
-ghost use Rattle.class_watch.specs.Walks.{HoldsWalks, meets_any};
-ghost use Rattle.ordered_check.specs.Kept.{HasClassRoom, WalksStand, IsSettledBy, AreSettled, KeepsRoom};
+ghost use Rattle.class_watch.specs.Walks.{HoldsWalks, meets_any, WalksStand};
+ghost use Rattle.ordered_check.specs.Kept.{HasClassRoom, IsSettledBy, AreSettled, KeepsRoom};
 ghost use Rattle.ordered_check.specs.Together.{IsMember, AreGathered};
 ghost use Rattle.ordered_check.specs.Firsts.{first_of, IsFirstOfClass, IsFoundBelow};
 
@@ -248,7 +248,7 @@ impl OrderedRoom {
     pub fn start(&mut self, of: &OrderedCase)
         requires { HasClassRoom (classes_for of.now.task) self.old }
         ensures stands { PicksStand of.now.evidence.picks 0 self.new.picks }
-        ensures walks { WalksStand (rollout of.now.task) 0 self.new }
+        ensures walks { WalksStand (rollout of.now.task) 0 self.new.classes self.new.came }
         ensures room { HasClassRoom (classes_for of.now.task) self.new }
     {
         of.keeps_valid();
@@ -442,7 +442,8 @@ impl OrderedRoom {
         requires room { HasClassRoom (classes_for of.now.task) self.old }
         requires touched { AreTouched (classes_for of.now.task) round.now.changes.now
             self.old.touched }
-        requires walks { WalksStand (rollout of.now.task) round.now.number self.old }
+        requires walks { WalksStand (rollout of.now.task) round.now.number self.old.classes
+            self.old.came }
         ensures settled { AreSettled of.now.task of.now.evidence round.now.number self.new }
         ensures room { KeepsRoom self.old self.new }
     {
@@ -470,7 +471,7 @@ impl OrderedRoom {
         ensures picks { self.new.picks ≡ self.old.picks }
         ensures room { HasClassRoom (classes_for of.now.task) self.new }
         ensures walks { IfNone result (WalksStand (rollout of.now.task) (suc round.now.number)
-            self.new) }
+            self.new.classes self.new.came) }
     {
         of.keeps_valid();
         self.guarded.forget();
@@ -503,13 +504,14 @@ impl OrderedRoom {
         requires before { RoundsPass of.now.task (Ordered of.now.evidence) k }
         requires pass { ChangesPass of.now.task (Ordered of.now.evidence) k }
         requires stands { PicksStand of.now.evidence.picks k self.old.picks }
-        requires walks { WalksStand (rollout of.now.task) k self.old }
+        requires walks { WalksStand (rollout of.now.task) k self.old.classes self.old.came }
         requires room { HasClassRoom (classes_for of.now.task) self.old }
         ensures none { IfNone result (ClassesPass of.now.task (Ordered of.now.evidence) k) }
         ensures some { IfSome result (IsFirstFrom of.now.task (Ordered of.now.evidence)
             (classes_start k)) }
         ensures stands { PicksStand of.now.evidence.picks (suc k) self.new.picks }
-        ensures walks { IfNone result (WalksStand (rollout of.now.task) (suc k) self.new) }
+        ensures walks { IfNone result (WalksStand (rollout of.now.task) (suc k) self.new.classes
+            self.new.came) }
         ensures room { HasClassRoom (classes_for of.now.task) self.new }
     {
         of.keeps_valid();

@@ -12,7 +12,7 @@ use Rattle.certificates.specs.declared.Evidence.TheVariants.{Ordered, TwoPhase}
 use Rattle.check_reasons.specs.Cases.{CaseView}
 use Rattle.check_reasons.specs.Ranks.{stage_of, round_of, number_of, least_class_number}
 use Rattle.plan_checker.specs.Fits.{RoomView, Fits}
-use Rattle.ordered_check.specs.Kept.{WalksStand}
+use Rattle.class_watch.specs.Walks.{WalksStand}
 use Rattle.ordered_check.specs.Picks.{PicksStand}
 use Rattle.round_tables.specs.PreparedTables.{StandsBefore}
 use Rattle.two_phase_check.specs.InForce.{LabelsStand}
@@ -41,7 +41,7 @@ pub record IsOfChanges (k : ℕ) (r : Reason) : Type 0 where
 
 -- what is kept of the picks, and of the walks of an ordered plan, stands before round k
 abbrev pub EvidenceStands : Task → Evidence → ℕ → RoomView → Type 0
-EvidenceStands t (Ordered e) k room = PicksStand e.picks k room.ordered.picks × WalksStand (rollout t) k room.ordered
+EvidenceStands t (Ordered e) k room = PicksStand e.picks k room.ordered.picks × WalksStand (rollout t) k room.ordered.classes room.ordered.came
 EvidenceStands t (TwoPhase e) k room = LabelsStand t.update.net e k room.two_phase
 
 -- the rooms fit the case and stand before round k

@@ -15,7 +15,8 @@ use Rattle.dest_classes.proofs.MapLaws.{class_is, number_fits}
 use Rattle.demands.specs.Duties.{DemandView}
 use Rattle.update_model.specs.Mixtures.{Rollout}
 use Rattle.class_watch.specs.Walks.{HoldsWalks}
-use Rattle.class_watch.proofs.ListLaws.{get_set_same, get_set_other, some_at}
+use Rattle.check_reasons.proofs.PositionLaws.{get_set_same, get_set_other}
+use Rattle.class_watch.proofs.ListLaws.{some_at}
 use Rattle.round_survey.specs.Surveys.{IsKnown, AreKnown, AreGood, AreWalkedBelow, HasSurveyRoom}
 
 module _ (u : Rollout) (demands : List DemandView) (k : ℕ) (classes : List Class) (came : List ℕ) (good : List Bool) (n : ℕ) (class : Class) (at : slice_get classes n ≡ Some class) (came_now : ℕ) (good_now : Bool) where

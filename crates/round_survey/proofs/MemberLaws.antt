@@ -4,7 +4,6 @@ use Rattle.std.specs.Prelude.{slice_get}
 use Rattle.std.specs.List.{AllByRecursion}
 use Rattle.net_base.specs.Members.{IsIn}
 use Rattle.net_base.specs.declared.ids.Vlan.{Vlan}
-use Rattle.net_base.specs.declared.ids.Vlan.TheVariants.{Untagged}
 use Rattle.net_base.proofs.MemberLaws.{in_append_cases}
 use Rattle.flow_rules.specs.Tables.{TableState, rules_of_all}
 use Rattle.flow_rules.specs.declared.rules.Rule.{Rule}
@@ -14,10 +13,6 @@ use Rattle.update_model.specs.Mixtures.{Rollout}
 use Rattle.certificates.specs.Certified.{KeepsVlan}
 use Rattle.mixed_walks.specs.Walks.{WalkState, AreTogether, TablesKeepVlans}
 use Rattle.round_survey.specs.Surveys.{IsAlike, AreMembers}
-
--- what is read past the end of a list of classes
-abbrev pub no_class : NumberedClass
-no_class = record { number = 0; class = record { entry = record { switch = record { 0 = 0 }; port = record { 0 = 0 }; vlan = Untagged }; first = 0 } }
 
 pub alike_through : (one other third : Class) → IsAlike one other → IsAlike other third → IsAlike one third
 alike_through one other third a b = record { address = a.address ∙ b.address; vlan = a.vlan ∙ b.vlan }

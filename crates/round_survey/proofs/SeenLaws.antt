@@ -1,7 +1,7 @@
 -- What is known of a class by what was seen of its walks, or of them in the round before.
 use Rattle.std.proofs.Common.{◌≡◌, ◌↔◌, ◌⊎◌, ℕ, zero, suc, ◌<◌, ◌≤◌, Bool, true, false, IsTrue, List, [], ◌∷◌, length, refl, sym, subst, inl, inr, arith}
-use Rattle.std.specs.Prelude.{◌==◌, not}
-use Rattle.std.proofs.lemmas.Bool.{both_ways, eqb-true, false≢true}
+use Rattle.std.specs.Prelude.{not}
+use Rattle.std.proofs.lemmas.Bool.{both_ways, false≢true}
 use Rattle.net_base.specs.Members.{IsIn}
 use Rattle.net_base.specs.Walks.{IsWalk, IsReached, end_of}
 use Rattle.net_base.specs.declared.ids.Place.{Place}
@@ -20,13 +20,13 @@ use Rattle.certificates.specs.Steps.{MayLeave, switches_along}
 use Rattle.certificates.proofs.Falling.{distinct_walk}
 use Rattle.mixed_walks.specs.Walks.{WalkState, switches_of, Covers, IsWalked, KeepVlansUpTo, TablesKeepVlans}
 use Rattle.net_base.specs.Switches.{has}
-use Rattle.class_watch.specs.Walks.{HoldsWalks, meets_any}
+use Rattle.class_watch.specs.Walks.{HoldsWalks, meets_any, HoldsWalksBefore}
 use Rattle.class_watch.proofs.StandLaws.{possible_next, next_held, next_outcomes}
 use Rattle.breaking_walks.specs.Breaking.{Breaks, HasBreakingWalk, MayLeaveUnmet}
 use Rattle.breaking_walks.specs.Surveys.{NeverDrops, NeverRepeats}
 use Rattle.breaking_walks.proofs.SurveyLaws.{never_again}
 use Rattle.round_survey.specs.Gates.{AreGates, IsMetFrom}
-use Rattle.round_survey.specs.Surveys.{KeepsDuties, IsSeen, IsKnown, HoldsWalksBefore}
+use Rattle.round_survey.specs.Surveys.{KeepsDuties, IsSeen, IsKnown}
 use Rattle.round_survey.specs.declared.seen.SurveyedWalks.{SurveyedWalks}
 use Rattle.round_survey.proofs.GateLaws.{gate_for, met_along_gates}
 
@@ -156,10 +156,6 @@ missed_known u good clear keeps_old (suc k) keeps less demands class came later 
 pub no_items : {A : Type 0} (xs : List A) → length xs ≤ 0 → xs ≡ []
 no_items [] none = refl
 no_items (x ∷ xs) none = absurd (omega arith)
-
-pub empty_list : {A : Type 0} (xs : List A) → (length xs == 0) ≡ true → xs ≡ []
-empty_list [] e = refl
-empty_list (x ∷ xs) e = let f = eqb-true (suc (length xs)) 0 e in absurd (omega arith)
 
 pub not_true : (b : Bool) → not b ≡ true → b ≡ false
 not_true true e = absurd (false≢true e)

@@ -1,5 +1,5 @@
 -- What is known of the classes in a round.
-use Rattle.std.specs.Prelude.{◌≡◌, ℕ, zero, suc, ◌<◌, Bool, true, false, IsTrue, List, length, slice_get, Some}
+use Rattle.std.specs.Prelude.{◌≡◌, ℕ, ◌<◌, Bool, true, false, IsTrue, List, length, slice_get, Some}
 use Rattle.net_base.specs.Members.{IsIn}
 use Rattle.net_base.specs.Switches.{has}
 use Rattle.net_base.specs.declared.ids.SwitchId.{SwitchId}
@@ -44,16 +44,6 @@ abbrev pub AreKnown : Rollout → List DemandView → ℕ → List Class → Lis
 AreKnown u demands k classes came good =
     (n : ℕ) (class : Class) (set : ℕ) → slice_get classes n ≡ Some class → slice_get came n ≡ Some set → slice_get good n ≡ Some true
     → IsKnown u demands k class set
-
--- the set holds the walks of the class in the round before round k; before the first round nothing is asked for
-abbrev pub HoldsWalksBefore : Rollout → ℕ → Class → ℕ → Type 0
-HoldsWalksBefore u zero class set = Unit {0}
-HoldsWalksBefore u (suc k) class set = HoldsWalks u k class set
-
--- so for each class, with its set
-abbrev pub WalksStand : Rollout → ℕ → List Class → List ℕ → Type 0
-WalksStand u k classes came =
-    (n : ℕ) (class : Class) (set : ℕ) → slice_get classes n ≡ Some class → slice_get came n ≡ Some set → HoldsWalksBefore u k class set
 
 -- these are the classes of a map, with a set and a mark for each
 pub record HasSurveyRoom (map : ClassList) (classes : List Class) (came : List ℕ) (good : List Bool) : Type 0 where

@@ -2,7 +2,8 @@
 ghost use Rattle.std.specs.Prelude.{◌≡◌, ◌+◌, ◌<◌, suc, length, IfOk, OnOk};
 ghost use Rattle.dest_classes.specs.Classes.{class_count};
 ghost use Rattle.round_survey.specs.Rounds.{round_rollout, IsPreparedRound};
-ghost use Rattle.round_survey.specs.Surveys.{AreGood, AreKnown, AreWalkedBelow, HasSurveyRoom, KeptBefore, WalksStand};
+ghost use Rattle.class_watch.specs.Walks.{WalksStand};
+ghost use Rattle.round_survey.specs.Surveys.{AreGood, AreKnown, AreWalkedBelow, HasSurveyRoom, KeptBefore};
 
 use crate::members::{gather, have_chains, see_members, settle_members, walk_members};
 use crate::missed::{atoms_to_look_at, mark_missed};

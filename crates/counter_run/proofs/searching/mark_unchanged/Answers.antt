@@ -7,7 +7,7 @@ use Rattle.dest_classes.specs.declared.Class.{Class}
 use Rattle.dest_classes.proofs.MapLaws.{number_fits}
 use Rattle.update_model.specs.declared.Change.{Change}
 use Rattle.check_reasons.specs.Touched.{touches}
-use Rattle.class_watch.proofs.ListLaws.{get_set_same, get_set_other}
+use Rattle.check_reasons.proofs.PositionLaws.{get_set_same, get_set_other}
 use Rattle.counter_run.specs.Showing.{shown_rollout}
 use Rattle.counter_run.specs.Explaining.{ClassBreaks}
 use Rattle.counter_run.proofs.ClassLaws.{class_unchanged}

@@ -1,7 +1,7 @@
 use Rattle.std.proofs.Common.{ℕ, sym, subst, arith, add-one}
 use Rattle.std.specs.Prelude.{Option, IfNone}
 use Rattle.round_tables.specs.PreparedTables.{StandsBefore}
-use Rattle.round_survey.specs.Surveys.{WalksStand}
+use Rattle.class_watch.specs.Walks.{WalksStand}
 use Rattle.counter_run.specs.Explaining.{NoneBreaks}
 use Rattle.counter_run.specs.Updates.{rollout_of}
 use Rattle.counter_run.proofs.ClassLaws.{rounds_more}

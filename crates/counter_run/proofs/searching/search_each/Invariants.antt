@@ -2,7 +2,8 @@ use Rattle.std.proofs.Common.{◌≡◌, true}
 use Rattle.flow_rules.specs.Tables.{rules_of_all}
 use Rattle.round_tables.specs.PreparedTables.{HasRoomForAll, StandsBefore}
 use Rattle.round_survey.specs.Keeping.{KeepVlans}
-use Rattle.round_survey.specs.Surveys.{HasSurveyRoom, WalksStand}
+use Rattle.class_watch.specs.Walks.{WalksStand}
+use Rattle.round_survey.specs.Surveys.{HasSurveyRoom}
 use Rattle.counter_run.specs.Updates.{NoneBreaksBefore, rollout_of}
 use Rattle.counter_run.proofs.searching.search_each.Given as goal
 

@@ -8,7 +8,7 @@ use Rattle.config_check.proofs.JudgeLaws.{class_within}
 use Rattle.check_reasons.specs.Cases.{CaseView}
 use Rattle.mixed_walks.proofs.PlaceLaws.{tables_keep}
 use Rattle.class_watch.specs.Walks.{HoldsWalks}
-use Rattle.class_watch.proofs.ListLaws.{get_set_same, get_set_other}
+use Rattle.check_reasons.proofs.PositionLaws.{get_set_same, get_set_other}
 use Rattle.ordered_check.specs.Cases.{OrderedView}
 use Rattle.ordered_check.proofs.StandLaws.{rounds_keep, round_of}
 use Rattle.ordered_check.proofs.ordered.walk_class.Goals as goal

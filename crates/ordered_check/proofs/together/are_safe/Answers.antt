@@ -1,5 +1,6 @@
 use Rattle.std.proofs.Common.{◌<◌, not, List, length, ap, sym, subst, ◌∙◌, arith}
-use Rattle.std.proofs.lemmas.Bool.{false≢true}
+use Rattle.std.proofs.lemmas.List.{nil_from_length}
+use Rattle.std.proofs.lemmas.Bool.{false≢true, eqb-true}
 use Rattle.std.specs.List.{AllByRecursion}
 use Rattle.std.proofs.lemmas.List.Elements.{All-from_recursion}
 use Rattle.net_base.specs.Members.{IsIn}
@@ -10,7 +11,6 @@ use Rattle.acyclic_numbering.specs.declared.Edge.{Edge}
 use Rattle.certificates.specs.Valid.{IsValidUse, IsValidNumbering}
 use Rattle.ordered_check.specs.Judged.{HasEdgeUp}
 use Rattle.certificates.proofs.PickLaws.{at_place}
-use Rattle.ordered_check.proofs.TogetherLaws.{empty_list}
 use Rattle.ordered_check.proofs.together.are_safe.Goals as goal
 
 pub numbering-numbering-requires : goal.numbering-numbering-requires
@@ -31,7 +31,7 @@ least_not_lower-requires c =
 pub returns-then-is_empty : goal.returns-then-is_empty
 returns-then-is_empty c safe =
     let numbers = c.numbering-numbering.result.now in
-    let none = sym c.dropping.ensures ∙ empty_list c.dropping.result.now (sym c.is_empty.ensures ∙ c.if-is_empty.true) in
+    let none = sym c.dropping.ensures ∙ nil_from_length c.dropping.result.now (eqb-true (length c.dropping.result.now) 0 (sym c.is_empty.ensures ∙ c.if-is_empty.true)) in
     record {
       numbers = numbers;
       use_ = c.shared-shared.result.now;

@@ -1,7 +1,9 @@
-use Rattle.std.proofs.Common.{◌≡◌, List, IsTrue, refl, sym, ◌∙◌, ap, subst}
+use Rattle.std.proofs.Common.{◌≡◌, List, IsTrue, refl, sym, ◌∙◌, ap, subst, length}
+use Rattle.std.proofs.lemmas.Bool.{eqb-true}
+use Rattle.std.proofs.lemmas.List.{nil_from_length}
 use Rattle.demands.specs.Duties.{ClassDuties, DemandView, duties_of}
 use Rattle.check_reasons.specs.Positions.{position_count}
-use Rattle.ordered_check.proofs.TogetherLaws.{counted_in, class_in, empty_list}
+use Rattle.ordered_check.proofs.TogetherLaws.{counted_in, class_in}
 use Rattle.ordered_check.proofs.together.group_of.Goals as goal
 
 pub has_positions-requires-clause-number : goal.has_positions-requires-clause-number
@@ -24,7 +26,7 @@ returns c =
       vlan = refl;
       shared = refl;
       use_is = c.shared-shared.ensures;
-      no_sets = sym c.list-indices.ensures ∙ empty_list c.list-indices.result.now (sym c.is_empty.ensures ∙ c.if-not-is_empty.false);
+      no_sets = sym c.list-indices.ensures ∙ nil_from_length c.list-indices.result.now (eqb-true (length c.list-indices.result.now) 0 (sym c.is_empty.ensures ∙ c.if-not-is_empty.false));
       no_waypoints = subst (λ (ds : List DemandView). 0 ≡ position_count (duties_of ds class.entry class.first).chains) demands (c.has_positions.ensures.0 c.if-not-has_positions.false);
       arrive = λ arrive.
           c.must_arrive.ensures.arrive class (class_in t c.class_duties-duties.result.now c.args.numbered.number class c.class_duties-duties.ensures c.requires.class)

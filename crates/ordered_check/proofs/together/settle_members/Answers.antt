@@ -3,7 +3,8 @@ use Rattle.std.proofs.lemmas.List.{take_more, take_all, length-set}
 use Rattle.net_base.proofs.ItemLaws.{in_at}
 use Rattle.dest_classes.specs.declared.NumberedClass.{NumberedClass}
 use Rattle.ordered_check.specs.Together.{AreSettledWith}
-use Rattle.ordered_check.proofs.TogetherLaws.{no_class, with_none, with_more}
+use Rattle.class_watch.proofs.ListLaws.{no_class}
+use Rattle.ordered_check.proofs.TogetherLaws.{with_none, with_more}
 use Rattle.ordered_check.proofs.together.settle_members.Goals as goal
 
 pub loop-member-init : goal.loop-member-init

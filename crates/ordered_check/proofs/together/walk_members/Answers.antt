@@ -5,7 +5,7 @@ use Rattle.net_base.proofs.MemberLaws.{in_append_cases}
 use Rattle.net_base.proofs.ItemLaws.{in_at}
 use Rattle.dest_classes.specs.declared.NumberedClass.{NumberedClass}
 use Rattle.certificates.specs.Updates.{rollout}
-use Rattle.ordered_check.proofs.TogetherLaws.{no_class}
+use Rattle.class_watch.proofs.ListLaws.{no_class}
 use Rattle.ordered_check.proofs.together.walk_members.Goals as goal
 
 pub loop-member-init : goal.loop-member-init

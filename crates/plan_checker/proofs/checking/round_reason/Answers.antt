@@ -2,7 +2,8 @@ use Rattle.std.proofs.Common.{◌≡◌, ℕ, suc, sym, ap, rules, subst}
 use Rattle.certificates.specs.Updates.{Task, rollout}
 use Rattle.certificates.specs.declared.Evidence.{Evidence}
 use Rattle.certificates.specs.declared.Evidence.TheVariants.{Ordered, TwoPhase}
-use Rattle.ordered_check.specs.Kept.{OrderedState, WalksStand}
+use Rattle.class_watch.specs.Walks.{WalksStand}
+use Rattle.ordered_check.specs.Kept.{OrderedState}
 use Rattle.ordered_check.specs.Picks.{PicksStand}
 use Rattle.two_phase_check.specs.InForce.{LabelsStand}
 use Rattle.two_phase_check.specs.declared.labels.LabelsInForce.{LabelsInForce}
@@ -15,7 +16,7 @@ use Rattle.plan_checker.proofs.checking.round_reason.Goals as goal
 -- what is kept stands in each room that keeps the same
 stands_there : (t : Task) (e : Evidence) (k : ℕ) (room other : RoomView) → room.ordered ≡ other.ordered → room.two_phase ≡ other.two_phase
     → EvidenceStands t e k room → EvidenceStands t e k other
-stands_there t (Ordered e) k room other ordered two_phase h = subst (λ (o : OrderedState). PicksStand e.picks k o.picks × WalksStand (rollout t) k o) ordered h
+stands_there t (Ordered e) k room other ordered two_phase h = subst (λ (o : OrderedState). PicksStand e.picks k o.picks × WalksStand (rollout t) k o.classes o.came) ordered h
 stands_there t (TwoPhase e) k room other ordered two_phase h = subst (λ (l : LabelsInForce). LabelsStand t.update.net e k l) two_phase h
 
 pub returns-in-Some-clause-some : goal.returns-in-Some-clause-some

@@ -1,6 +1,7 @@
 use Rattle.std.proofs.Common.{get_or, arith}
 use Rattle.net_base.proofs.ItemLaws.{in_at}
-use Rattle.round_survey.proofs.MemberLaws.{no_class, alike_through}
+use Rattle.class_watch.proofs.ListLaws.{no_class}
+use Rattle.round_survey.proofs.MemberLaws.{alike_through}
 use Rattle.round_survey.proofs.members.goes_with.Goals as goal
 
 pub returns-in-len1-up : goal.returns-in-len1-up

@@ -1,7 +1,7 @@
 use Rattle.std.proofs.Common.{get_or}
 use Rattle.net_base.proofs.ItemLaws.{in_at}
 use Rattle.dest_classes.proofs.MapLaws.{number_fits}
-use Rattle.round_survey.proofs.MemberLaws.{no_class}
+use Rattle.class_watch.proofs.ListLaws.{no_class}
 use Rattle.round_survey.proofs.members.have_chains.Goals as goal
 
 pub chains-requires : goal.chains-requires

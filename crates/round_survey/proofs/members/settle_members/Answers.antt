@@ -1,6 +1,6 @@
 use Rattle.std.proofs.Common.{get_or, ◌∙◌}
 use Rattle.net_base.proofs.ItemLaws.{in_at}
-use Rattle.round_survey.proofs.MemberLaws.{no_class}
+use Rattle.class_watch.proofs.ListLaws.{no_class}
 use Rattle.round_survey.proofs.members.settle_members.Goals as goal
 
 pub settle-requires-clause-class : goal.settle-requires-clause-class

@@ -3,7 +3,8 @@ use Rattle.std.proofs.lemmas.Option.{slice_get-get_or}
 use Rattle.net_base.specs.Members.{IsIn}
 use Rattle.dest_classes.specs.declared.NumberedClass.{NumberedClass}
 use Rattle.round_survey.specs.Surveys.{AreAlike, AreMembers}
-use Rattle.round_survey.proofs.MemberLaws.{no_class, members_more}
+use Rattle.class_watch.proofs.ListLaws.{no_class}
+use Rattle.round_survey.proofs.MemberLaws.{members_more}
 use Rattle.round_survey.proofs.members.take_class.Goals as goal
 
 pub goes_with-requires : goal.goes_with-requires

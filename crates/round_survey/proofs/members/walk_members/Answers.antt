@@ -5,7 +5,8 @@ use Rattle.net_base.proofs.MemberLaws.{in_append_cases}
 use Rattle.net_base.proofs.ItemLaws.{in_at}
 use Rattle.dest_classes.specs.declared.NumberedClass.{NumberedClass}
 use Rattle.round_survey.specs.Rounds.{round_rollout}
-use Rattle.round_survey.proofs.MemberLaws.{no_class, together_for}
+use Rattle.class_watch.proofs.ListLaws.{no_class}
+use Rattle.round_survey.proofs.MemberLaws.{together_for}
 use Rattle.round_survey.proofs.members.walk_members.Goals as goal
 
 pub walk_more-requires-clause-round : goal.walk_more-requires-clause-round

@@ -4,9 +4,9 @@ use Rattle.std.proofs.lemmas.Bool.{cases_eq, cases_lt}
 use Rattle.std.proofs.lemmas.List.{length-set}
 use Rattle.std.proofs.lemmas.Option.{get_or_from_slice_get, slice_get_within}
 use Rattle.dest_classes.specs.declared.Class.{Class}
-use Rattle.class_watch.proofs.ListLaws.{get_set_same, get_set_other}
+use Rattle.check_reasons.proofs.PositionLaws.{get_set_same, get_set_other}
 use Rattle.round_survey.specs.Rounds.{IsMissed}
-use Rattle.round_survey.proofs.MemberLaws.{no_class}
+use Rattle.class_watch.proofs.ListLaws.{no_class}
 use Rattle.round_survey.proofs.MissLaws.{missed_over}
 use Rattle.round_survey.proofs.missed.mark_missed.Goals as goal
 

@@ -1,6 +1,6 @@
 use Rattle.std.proofs.Common.{get_or, arith}
 use Rattle.net_base.proofs.ItemLaws.{in_at}
-use Rattle.round_survey.proofs.MemberLaws.{no_class}
+use Rattle.class_watch.proofs.ListLaws.{no_class}
 use Rattle.round_survey.proofs.stepping.never_repeat.Goals as goal
 
 pub come_once-requires-clause-alike : goal.come_once-requires-clause-alike

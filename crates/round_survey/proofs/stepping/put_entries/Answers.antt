@@ -5,7 +5,7 @@ use Rattle.net_base.specs.declared.ids.Place.{Place}
 use Rattle.net_base.proofs.MemberLaws.{in_append_left, in_append_cases}
 use Rattle.net_base.proofs.ItemLaws.{in_at, in_from_get}
 use Rattle.dest_classes.specs.declared.NumberedClass.{NumberedClass}
-use Rattle.round_survey.proofs.MemberLaws.{no_class}
+use Rattle.class_watch.proofs.ListLaws.{no_class}
 use Rattle.round_survey.proofs.stepping.put_entries.Goals as goal
 
 pub loop-member-init : goal.loop-member-init

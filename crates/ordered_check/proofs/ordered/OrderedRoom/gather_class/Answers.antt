@@ -1,6 +1,5 @@
-use Rattle.std.proofs.Common.{◌<◌, List, length, sym, ap, subst, arith}
+use Rattle.std.proofs.Common.{List, sym, ap, subst}
 use Rattle.net_base.specs.Members.{IsIn}
-use Rattle.dest_classes.specs.declared.Class.{Class}
 use Rattle.dest_classes.specs.declared.NumberedClass.{NumberedClass}
 use Rattle.ordered_check.specs.Kept.{OrderedState}
 use Rattle.ordered_check.specs.Together.{IsMember, AreGathered}
@@ -15,10 +14,8 @@ returns-clause-gathered c =
     let k = c.args.round.now.number in
     let n = c.args.number in
     let class = c.index-class.result.now in
-    let number = c.requires.number in
     let classes_are = ap (λ (s : OrderedState). s.classes) c.self.view_is in
-    let within : n < length c.self.inside.classes.items = (let same = ap (λ (cs : List Class). length cs) classes_are in let count = c.requires.room.classes_are.count in omega arith) in
-    let here = class_at t n c.args.self.now c.self.inside.classes.items classes_are class within c.index-class.ensures in
+    let here = class_at t n c.args.self.now c.self.inside.classes.items classes_are class c.index-class.ensures c.requires.number c.requires.room in
     let so_far = subst (λ (s : OrderedState). AreGathered t e k c.args.begun s.members) (sym c.self.view_is) c.requires.so_far in
     subst (λ (xs : List NumberedClass). (m : NumberedClass) → IsIn m xs → IsMember t e k c.in-Some.group m) (sym c.push_reserved.ensures.items)
     (gathered_more t e k c.args.begun c.in-Some.group c.self.inside.members.items (record { number = n; class = class }) (c.is_other.ensures c.if-is_other.false) so_far (c.in-Some.ensures class here))

@@ -1,17 +1,15 @@
-use Rattle.std.proofs.Common.{◌≡◌, ℕ, suc, ◌%◌, ◌<◌, List, length, Option, IfSome, sym, ◌∙◌, ap, subst, arith}
+use Rattle.std.proofs.Common.{suc, ◌%◌, List, length, Option, IfSome, sym, ◌∙◌, ap, subst, arith}
 use Rattle.std.proofs.lemmas.Option.{same_Some}
 use Rattle.certificates.specs.Ordered.{IsPickInForce}
-use Rattle.certificates.specs.Certified.{classes_for}
 use Rattle.certificates.specs.declared.OrderedPick.{OrderedPick}
 use Rattle.ordered_check.specs.Picks.{IsKeptPick}
 use Rattle.ordered_check.specs.Together.{IsOfGroup, IsMember}
 use Rattle.ordered_check.proofs.TogetherLaws.{use_within, some_then}
 use Rattle.std.specs.Prelude.{slice_get}
-use Rattle.dest_classes.specs.Classes.{atom_count, class_count}
 use Rattle.dest_classes.specs.declared.Class.{Class}
 use Rattle.check_reasons.specs.AtomMarks.{is_marked}
 use Rattle.ordered_check.specs.Kept.{OrderedState}
-use Rattle.ordered_check.proofs.KeptLaws.{class_at, is_at}
+use Rattle.ordered_check.proofs.KeptLaws.{class_at, is_at, touched_at}
 use Rattle.ordered_check.proofs.ordered.OrderedRoom.group_at.Goals as goal
 
 pub index-class-requires : goal.index-class-requires
@@ -37,27 +35,15 @@ of-in_force-requires c =
 
 pub is_unchanged-requires : goal.is_unchanged-requires
 is_unchanged-requires c =
-    let t = c.args.of.now.task in
-    let n = c.args.number in
-    let state = c.args.self.now in
-    let class = c.index-class.result.now in
-    let room = c.requires.room in
-    let number = c.requires.number in
-    let classes_are = ap (λ (s : OrderedState). s.classes) c.self.view_is in
-    let within : n < length c.self.inside.classes.items = (let same = ap (λ (cs : List Class). length cs) classes_are in let count = room.classes_are.count in omega arith) in
-    let fits : n < class_count (classes_for t) = number in
-    let atom : c.atom_of.result ≡ n % atom_count (classes_for t) =
-    c.atom_of.ensures ∙ ap (λ (s : OrderedState). n % length s.looked) c.self.view_is ∙ ap (λ (m : ℕ). n % m) (room.looked (omega arith)) in
-    c.has-touched.ensures ∙ ap (λ (s : OrderedState). is_marked s.touched c.atom_of.result) c.self.view_is ∙ ap (is_marked state.touched) atom
-    ∙ c.requires.touched n class (is_at t n state c.self.inside.classes.items classes_are class within c.index-class.ensures room)
+    touched_at c.args.of.now.task c.args.number c.args.self.now c.self.inside.classes.items (ap (λ (s : OrderedState). s.classes) c.self.view_is) c.index-class.result.now c.index-class.ensures
+    c.requires.number c.requires.room c.args.round.now.changes.now c.atom_of.result c.has-touched.result c.requires.touched
+    (c.atom_of.ensures ∙ ap (λ (s : OrderedState). c.args.number % length s.looked) c.self.view_is)
+    (c.has-touched.ensures ∙ ap (λ (s : OrderedState). is_marked s.touched c.atom_of.result) c.self.view_is)
 
 pub group_of-requires-clause-class : goal.group_of-requires-clause-class
 group_of-requires-clause-class c =
-    let t = c.args.of.now.task in
-    let classes_are = ap (λ (s : OrderedState). s.classes) c.self.view_is in
-    let number = c.requires.number in
-    let within : c.args.number < length c.self.inside.classes.items = (let same = ap (λ (cs : List Class). length cs) classes_are in let count = c.requires.room.classes_are.count in omega arith) in
-    is_at t c.args.number c.args.self.now c.self.inside.classes.items classes_are c.index-class.result.now within c.index-class.ensures c.requires.room
+    is_at c.args.of.now.task c.args.number c.args.self.now c.self.inside.classes.items (ap (λ (s : OrderedState). s.classes) c.self.view_is) c.index-class.result.now c.index-class.ensures c.requires.number
+    c.requires.room
 
 pub group_of-requires-clause-pick : goal.group_of-requires-clause-pick
 group_of-requires-clause-pick c =
@@ -79,14 +65,11 @@ returns c other is =
     let state = c.args.self.now in
     let class = c.index-class.result.now in
     let pick = c.in_ok-pick.pick in
-    let room = c.requires.room in
-    let number = c.requires.number in
     let classes_are = ap (λ (s : OrderedState). s.classes) c.self.view_is in
-    let within : n < length c.self.inside.classes.items = (let same = ap (λ (cs : List Class). length cs) classes_are in let count = room.classes_are.count in omega arith) in
-    let here = class_at t n state c.self.inside.classes.items classes_are class within c.index-class.ensures in
+    let here = class_at t n state c.self.inside.classes.items classes_are class c.index-class.ensures c.requires.number c.requires.room in
     let picks_are = ap (λ (s : OrderedState). s.picks.of_class) c.self.view_is in
     let kept = c.requires.stands.each n c.of-in_force.result (ap (λ (ps : List (Option OrderedPick)). slice_get ps n) (sym picks_are) ∙ c.of-in_force.ensures) in
     let force : IsPickInForce e.picks (suc k) n pick = subst (IsKeptPick e.picks (suc k) n) c.in_ok-pick.was kept in
     subst (λ (x : Class). IfSome c.group_of.result (λ group. IsMember t e k group (record { number = n; class = x }))) (same_Some class other (sym here ∙ is))
     (some_then c.group_of.result (IsOfGroup t e class pick) (λ group. IsMember t e k group (record { number = n; class = class })) c.group_of.ensures
-    (λ group found. record { pick = pick; is = is_at t n state c.self.inside.classes.items classes_are class within c.index-class.ensures room; in_force = force; of_group = found }))
+    (λ group found. record { pick = pick; is = is_at t n state c.self.inside.classes.items classes_are class c.index-class.ensures c.requires.number c.requires.room; in_force = force; of_group = found }))

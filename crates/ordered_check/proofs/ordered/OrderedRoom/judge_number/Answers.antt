@@ -1,7 +1,6 @@
-use Rattle.std.proofs.Common.{◌≡◌, ℕ, suc, ◌%◌, ◌<◌, ◌≤◌, Bool, true, false, List, length, Option, Some, IfNone, sym, ◌∙◌, ap, subst, arith}
+use Rattle.std.proofs.Common.{◌≡◌, ℕ, suc, ◌%◌, ◌≤◌, Bool, true, false, List, length, Option, Some, IfNone, refl, sym, ◌∙◌, ap, subst, arith}
 use Rattle.std.specs.Prelude.{slice_get, IsSomeAnd}
 use Rattle.std.proofs.lemmas.Option.{same_Some}
-use Rattle.dest_classes.specs.Classes.{atom_count, class_count}
 use Rattle.dest_classes.specs.declared.Class.{Class}
 use Rattle.update_model.specs.declared.Change.{Change}
 use Rattle.path_walk.specs.UserConfigs.{IsUserConfig}
@@ -16,10 +15,10 @@ use Rattle.check_reasons.specs.AtomMarks.{is_marked}
 use Rattle.round_mix.specs.Prepared.{MixedState}
 use Rattle.ordered_check.specs.Cases.{IsRound}
 use Rattle.ordered_check.specs.Picks.{PicksStand}
-use Rattle.class_watch.specs.Walks.{HoldsWalks, meets_any}
-use Rattle.class_watch.proofs.ListLaws.{some_at, read_at}
-use Rattle.ordered_check.specs.Kept.{OrderedState, HasClassRoom, HoldsWalksBefore}
-use Rattle.ordered_check.proofs.KeptLaws.{none_then, class_at, is_at}
+use Rattle.class_watch.specs.Walks.{HoldsWalks, meets_any, HoldsWalksBefore}
+use Rattle.class_watch.proofs.ListLaws.{some_at, read_of}
+use Rattle.ordered_check.specs.Kept.{OrderedState, HasClassRoom}
+use Rattle.ordered_check.proofs.KeptLaws.{none_then, class_at, is_at, touched_at}
 use Rattle.ordered_check.proofs.StandLaws.{class_stands}
 use Rattle.ordered_check.proofs.ordered.OrderedRoom.judge_number.Goals as goal
 
@@ -68,21 +67,18 @@ returns-then-settled-clause-none c class is =
     let state = c.args.self.now in
     let number = c.requires.number in
     let (marks, came) = some_at state.came n (let count = c.requires.room.came in omega arith) in
-    let settled_is = ap (λ (s : OrderedState). s.settled) c.self.view_is in
-    let known : n < length c.self.inside.settled.items = (let same = ap (λ (bs : List Bool). length bs) settled_is in let count = c.requires.room.settled in omega arith) in
     let on : slice_get state.settled n ≡ Some true =
-    ap (λ (bs : List Bool). slice_get bs n) (sym settled_is) ∙ read_at c.self.inside.settled.items n c.index-settled.result.now known c.index-settled.ensures ∙ ap (λ (b : Bool). Some b) c.if-settled.true in
+    read_of c.self.inside.settled.items state.settled n _ c.index-settled.result.now (ap (λ (s : OrderedState). s.settled) c.self.view_is) c.requires.room.settled
+    c.requires.number c.index-settled.ensures ∙ ap (λ (b : Bool). Some b) c.if-settled.true in
     (c.requires.settled class marks true is came on).0
 
 pub returns-then-settled-clause-walks : goal.returns-then-settled-clause-walks
 returns-then-settled-clause-walks c class marks is came =
     let n = c.args.number in
     let state = c.args.self.now in
-    let number = c.requires.number in
-    let settled_is = ap (λ (s : OrderedState). s.settled) c.self.view_is in
-    let known : n < length c.self.inside.settled.items = (let same = ap (λ (bs : List Bool). length bs) settled_is in let count = c.requires.room.settled in omega arith) in
     let on : slice_get state.settled n ≡ Some true =
-    ap (λ (bs : List Bool). slice_get bs n) (sym settled_is) ∙ read_at c.self.inside.settled.items n c.index-settled.result.now known c.index-settled.ensures ∙ ap (λ (b : Bool). Some b) c.if-settled.true in
+    read_of c.self.inside.settled.items state.settled n _ c.index-settled.result.now (ap (λ (s : OrderedState). s.settled) c.self.view_is) c.requires.room.settled
+    c.requires.number c.index-settled.ensures ∙ ap (λ (b : Bool). Some b) c.if-settled.true in
     (c.requires.settled class marks true is came on).1
 
 pub returns-then-is_unchanged-clause-none : goal.returns-then-is_unchanged-clause-none
@@ -94,19 +90,14 @@ returns-then-is_unchanged-clause-none c other is =
     let state = c.args.self.now in
     let class = c.index-class.result.now in
     let classes_are = ap (λ (s : OrderedState). s.classes) c.self.view_is in
-    let came_is = ap (λ (s : OrderedState). s.came) c.self.view_is in
     let picks_are = ap (λ (s : OrderedState). s.picks.of_class) c.self.view_is in
-    let number = c.requires.number in
-    let within : n < length c.self.inside.classes.items = (let same = ap (λ (cs : List Class). length cs) classes_are in let count = c.requires.room.classes_are.count in omega arith) in
-    let marked : n < length c.self.inside.watch.came.items = (let same = ap (λ (ms : List ℕ). length ms) came_is in let count = c.requires.room.came in omega arith) in
-    let here = class_at t n state c.self.inside.classes.items classes_are class within c.index-class.ensures in
-    let settled_is = ap (λ (s : OrderedState). s.settled) c.self.view_is in
-    let known : n < length c.self.inside.settled.items = (let same = ap (λ (bs : List Bool). length bs) settled_is in let count = c.requires.room.settled in omega arith) in
+    let here = class_at t n state c.self.inside.classes.items classes_are class c.index-class.ensures c.requires.number c.requires.room in
     let off : slice_get state.settled n ≡ Some false =
-    ap (λ (bs : List Bool). slice_get bs n) (sym settled_is) ∙ read_at c.self.inside.settled.items n c.index-settled.result.now known c.index-settled.ensures ∙ ap (λ (b : Bool). Some b) c.if-settled.false in
+    read_of c.self.inside.settled.items state.settled n _ c.index-settled.result.now (ap (λ (s : OrderedState). s.settled) c.self.view_is) c.requires.room.settled
+    c.requires.number c.index-settled.ensures ∙ ap (λ (b : Bool). Some b) c.if-settled.false in
     let before = λ (cl : Class) (ms : ℕ) (at : slice_get state.classes n ≡ Some cl) (there_is : slice_get state.came n ≡ Some ms). c.requires.settled cl ms false at there_is off in
     let stands = stands_there t e k n c.args.round.now.changes.now c.args.round.now.mixes.now state class c.index.result.now c.of-in_force.result c.keeps_valid.ensures.old_user c.keeps_valid.ensures.valid c.requires.round
-    c.requires.room c.requires.stands before here (ap (λ (ms : List ℕ). slice_get ms n) (sym came_is) ∙ read_at c.self.inside.watch.came.items n c.index.result.now marked c.index.ensures)
+    c.requires.room c.requires.stands before here (read_of c.self.inside.watch.came.items state.came n _ c.index.result.now (ap (λ (s : OrderedState). s.came) c.self.view_is) c.requires.room.came c.requires.number c.index.ensures)
     (ap (λ (ps : List (Option OrderedPick)). slice_get ps n) (sym picks_are) ∙ c.of-in_force.ensures) (c.is_unchanged.ensures.pick c.if-is_unchanged.true) (c.is_unchanged.ensures.walk c.if-is_unchanged.true) in
     subst (λ (x : Class). OrderedCertificate (rollout t) e k n x.first x.entry (class_duties t x)) (same_Some class other (sym here ∙ is)) stands.0
 
@@ -120,17 +111,12 @@ returns-then-is_unchanged-clause-walks c other them is came =
     let class = c.index-class.result.now in
     let marks = c.index.result.now in
     let classes_are = ap (λ (s : OrderedState). s.classes) c.self.view_is in
-    let came_is = ap (λ (s : OrderedState). s.came) c.self.view_is in
     let picks_are = ap (λ (s : OrderedState). s.picks.of_class) c.self.view_is in
-    let number = c.requires.number in
-    let within : n < length c.self.inside.classes.items = (let same = ap (λ (cs : List Class). length cs) classes_are in let count = c.requires.room.classes_are.count in omega arith) in
-    let marked : n < length c.self.inside.watch.came.items = (let same = ap (λ (ms : List ℕ). length ms) came_is in let count = c.requires.room.came in omega arith) in
-    let here = class_at t n state c.self.inside.classes.items classes_are class within c.index-class.ensures in
-    let there : slice_get state.came n ≡ Some marks = ap (λ (ms : List ℕ). slice_get ms n) (sym came_is) ∙ read_at c.self.inside.watch.came.items n marks marked c.index.ensures in
-    let settled_is = ap (λ (s : OrderedState). s.settled) c.self.view_is in
-    let known : n < length c.self.inside.settled.items = (let same = ap (λ (bs : List Bool). length bs) settled_is in let count = c.requires.room.settled in omega arith) in
+    let here = class_at t n state c.self.inside.classes.items classes_are class c.index-class.ensures c.requires.number c.requires.room in
+    let there : slice_get state.came n ≡ Some marks = read_of c.self.inside.watch.came.items state.came n _ marks (ap (λ (s : OrderedState). s.came) c.self.view_is) c.requires.room.came c.requires.number c.index.ensures in
     let off : slice_get state.settled n ≡ Some false =
-    ap (λ (bs : List Bool). slice_get bs n) (sym settled_is) ∙ read_at c.self.inside.settled.items n c.index-settled.result.now known c.index-settled.ensures ∙ ap (λ (b : Bool). Some b) c.if-settled.false in
+    read_of c.self.inside.settled.items state.settled n _ c.index-settled.result.now (ap (λ (s : OrderedState). s.settled) c.self.view_is) c.requires.room.settled
+    c.requires.number c.index-settled.ensures ∙ ap (λ (b : Bool). Some b) c.if-settled.false in
     let before = λ (cl : Class) (ms : ℕ) (at : slice_get state.classes n ≡ Some cl) (there_is : slice_get state.came n ≡ Some ms). c.requires.settled cl ms false at there_is off in
     let stands = stands_there t e k n c.args.round.now.changes.now c.args.round.now.mixes.now state class marks c.of-in_force.result c.keeps_valid.ensures.old_user c.keeps_valid.ensures.valid c.requires.round
     c.requires.room c.requires.stands before here there
@@ -140,27 +126,15 @@ returns-then-is_unchanged-clause-walks c other them is came =
 
 pub is_unchanged-requires : goal.is_unchanged-requires
 is_unchanged-requires c =
-    let t = c.args.of.now.task in
-    let n = c.args.number in
-    let state = c.args.self.now in
-    let class = c.index-class.result.now in
-    let room = c.requires.room in
-    let number = c.requires.number in
-    let classes_are = ap (λ (s : OrderedState). s.classes) c.self.view_is in
-    let within : n < length c.self.inside.classes.items = (let same = ap (λ (cs : List Class). length cs) classes_are in let count = room.classes_are.count in omega arith) in
-    let fits : n < class_count (classes_for t) = number in
-    let atom : c.atom_of.result ≡ n % atom_count (classes_for t) =
-    c.atom_of.ensures ∙ ap (λ (s : OrderedState). n % length s.looked) c.self.view_is ∙ ap (λ (m : ℕ). n % m) (room.looked (omega arith)) in
-    c.has-touched.ensures ∙ ap (λ (s : OrderedState). is_marked s.touched c.atom_of.result) c.self.view_is ∙ ap (is_marked state.touched) atom
-    ∙ c.requires.touched n class (is_at t n state c.self.inside.classes.items classes_are class within c.index-class.ensures room)
+    touched_at c.args.of.now.task c.args.number c.args.self.now c.self.inside.classes.items (ap (λ (s : OrderedState). s.classes) c.self.view_is) c.index-class.result.now c.index-class.ensures
+    c.requires.number c.requires.room c.args.round.now.changes.now c.atom_of.result c.has-touched.result c.requires.touched
+    (c.atom_of.ensures ∙ ap (λ (s : OrderedState). c.args.number % length s.looked) c.self.view_is)
+    (c.has-touched.ensures ∙ ap (λ (s : OrderedState). is_marked s.touched c.atom_of.result) c.self.view_is)
 
 pub judge_class-requires-clause-class : goal.judge_class-requires-clause-class
 judge_class-requires-clause-class c =
-    let t = c.args.of.now.task in
-    let classes_are = ap (λ (s : OrderedState). s.classes) c.self.view_is in
-    let number = c.requires.number in
-    let within : c.args.number < length c.self.inside.classes.items = (let same = ap (λ (cs : List Class). length cs) classes_are in let count = c.requires.room.classes_are.count in omega arith) in
-    is_at t c.args.number c.args.self.now c.self.inside.classes.items classes_are c.index-class.result.now within c.index-class.ensures c.requires.room
+    is_at c.args.of.now.task c.args.number c.args.self.now c.self.inside.classes.items (ap (λ (s : OrderedState). s.classes) c.self.view_is) c.index-class.result.now c.index-class.ensures c.requires.number
+    c.requires.room
 
 pub returns-clause-none : goal.returns-clause-none
 returns-clause-none c other is =
@@ -170,9 +144,7 @@ returns-clause-none c other is =
     let n = c.args.number in
     let class = c.index-class.result.now in
     let classes_are = ap (λ (s : OrderedState). s.classes) c.self.view_is in
-    let number = c.requires.number in
-    let within : n < length c.self.inside.classes.items = (let same = ap (λ (cs : List Class). length cs) classes_are in let count = c.requires.room.classes_are.count in omega arith) in
-    let here = class_at t n c.args.self.now c.self.inside.classes.items classes_are class within c.index-class.ensures in
+    let here = class_at t n c.args.self.now c.self.inside.classes.items classes_are class c.index-class.ensures c.requires.number c.requires.room in
     subst (λ (x : Class). IfNone c.judge_class.result (OrderedCertificate (rollout t) e k n x.first x.entry (class_duties t x))) (same_Some class other (sym here ∙ is)) c.judge_class.ensures.none
 
 pub returns-clause-others : goal.returns-clause-others
@@ -186,9 +158,8 @@ returns-clause-walks c =
     let class = c.index-class.result.now in
     let items = c.self.inside.classes.items in
     let came = c.judge_class.new.watch.came.items in
-    let number = c.requires.number in
-    let within : n < length items = (let same = ap (λ (s : OrderedState). length s.classes) c.self.view_is in let count = c.requires.room.classes_are.count in omega arith) in
-    let here : slice_get items n ≡ Some class = read_at items n class within c.index-class.ensures in
+    let count = ap (λ (s : OrderedState). length s.classes) c.self.view_is ∙ c.requires.room.classes_are.count in
+    let here : slice_get items n ≡ Some class = read_of items items n _ class refl count c.requires.number c.index-class.ensures in
     none_then c.judge_class.result ((marks : ℕ) → slice_get came n ≡ Some marks → HoldsWalks (rollout t) k class marks)
     ((other : Class) (marks : ℕ) → slice_get items n ≡ Some other → slice_get came n ≡ Some marks → HoldsWalks (rollout t) k other marks) c.judge_class.ensures.held
     (λ held other marks is at. subst (λ (x : Class). HoldsWalks (rollout t) k x marks) (same_Some class other (sym here ∙ is)) (held marks at))

@@ -3,8 +3,9 @@ use Rattle.std.specs.List.{AllByRecursion}
 use Rattle.std.proofs.lemmas.List.{drop_all, length-set}
 use Rattle.net_base.proofs.MemberLaws.{each_weaker}
 use Rattle.certificates.specs.declared.OrderedPick.{OrderedPick}
+use Rattle.check_reasons.proofs.AtomMarkLaws.{written_back}
 use Rattle.ordered_check.specs.Picks.{PicksState, PicksStand}
-use Rattle.ordered_check.proofs.PickLaws.{AreTaken, taken_more, latest_from_kept, kept_from_latest, back_later, written_back}
+use Rattle.ordered_check.proofs.PickLaws.{AreTaken, taken_more, latest_from_kept, kept_from_latest, back_later}
 use Rattle.ordered_check.proofs.picks.PicksInForce.advance.Goals as goal
 
 pub taking-init : goal.taking-init
