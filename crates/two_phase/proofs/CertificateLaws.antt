@@ -27,12 +27,12 @@ use Rattle.certificates.specs.declared.Label.{Label}
 use Rattle.certificates.specs.declared.TwoPhaseEvidence.{TwoPhaseEvidence}
 use Rattle.tag_allocator.specs.Tags.{Tagged, tags_of}
 use Rattle.table_difference.specs.SameClasses.{every_address}
-use Rattle.two_phase.specs.TwoPhasePlan.{rule, tagged_rules, ingress_rules, label, label_table, label_tables}
+use Rattle.two_phase.specs.TwoPhasePlan.{rule, tagged_rules, ingress_rules, label, label_table, label_tables, label_picks}
 use Rattle.two_phase.proofs.TagLaws.{IsTagging}
 use Rattle.two_phase.proofs.BandLaws.{header, covers_from, every_has, host_default_in}
 use Rattle.two_phase.proofs.MaskLaws.{IsBanded, HasRaw, HasAll, HasNone, no_ingress, raw_lookup, tagged_lookup, entering_lookup}
 use Rattle.two_phase.proofs.PlaceLaws.{stop_at, place_at, IsInner, goes_inner, entry_within, entry_host, tagged_outcome, entering_outcome, carries_own, user_lookup}
-use Rattle.two_phase.proofs.LabelLaws.{user_labelled, tag_labelled, label_cases, users_declared, picks_of, pick_of, IsOfVersion, in_force, picked}
+use Rattle.two_phase.proofs.LabelLaws.{user_labelled, tag_labelled, label_cases, users_declared, pick_of, IsOfVersion, in_force, picked}
 
 module _ (u : Rollout) (new : List (List Rule)) (k : ℕ) where
   -- something holds of each mixture at each switch
@@ -152,7 +152,7 @@ module _ (u : Rollout) (new : List (List Rule)) (k : ℕ) (net_is : IsNetwork u.
     labelled labels b tag (Leave port w) i = tt
     labelled labels b tag (Go q) i = i
 
-    module _ (evidence : TwoPhaseEvidence) (labels_are : evidence.labels ≡ label_tables u.net) (layers : ℕ) (picks_are : evidence.picks ≡ picks_of layers) (of : IsOfVersion layers k version) where
+    module _ (evidence : TwoPhaseEvidence) (labels_are : evidence.labels ≡ label_tables u.net) (layers : ℕ) (picks_are : evidence.picks ≡ label_picks layers) (of : IsOfVersion layers k version) where
       certificate_at : (s : SwitchId) (port : Port) → IsIn (stop_at s port) u.net.hosts → TwoPhaseCertificate u new evidence k dst (place_at s port v.user)
       certificate_at s port host = record {
         pick = pick_of layers version;
@@ -205,7 +205,7 @@ module _ (u : Rollout) (new : List (List Rule)) (k : ℕ) (net_is : IsNetwork u.
             ];
       }
 
-  pub certificate : (evidence : TwoPhaseEvidence) → evidence.labels ≡ label_tables u.net → (layers : ℕ) → evidence.picks ≡ picks_of layers → IsOfVersion layers k version
+  pub certificate : (evidence : TwoPhaseEvidence) → evidence.labels ≡ label_tables u.net → (layers : ℕ) → evidence.picks ≡ label_picks layers → IsOfVersion layers k version
       → (entry : Place) → IsEntry u.net entry → TwoPhaseCertificate u new evidence k dst entry
   certificate evidence labels_are layers picks_are of entry is_entry =
       let (v, is_tag, e) = tags.each entry.vlan is_entry.declared in

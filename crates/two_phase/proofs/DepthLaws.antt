@@ -7,27 +7,19 @@ use Rattle.net_base.specs.Members.{IsIn}
 use Rattle.net_base.proofs.MemberLaws.{in_map, in_from_map, in_filter, in_from_filter}
 use Rattle.net_base.proofs.ListLaws.{in_flat_map, in_from_flat_map}
 use Rattle.net_base.specs.declared.ids.SwitchId.{SwitchId}
-use Rattle.topology.specs.Networks.{Network, IsNetwork, switch_count}
+use Rattle.topology.specs.Networks.{Network, switch_count}
 use Rattle.flow_rules.specs.Overlaps.{patterns_meet}
 use Rattle.flow_rules.specs.Tables.{rules_at}
 use Rattle.flow_rules.specs.declared.rules.Rule.{Rule}
 use Rattle.flow_rules.proofs.OverlapLaws.{meet_out}
-use Rattle.demands.specs.Duties.{DemandView}
-use Rattle.demands.specs.Good.{HasGoodPaths}
-use Rattle.path_walk.specs.UserConfigs.{IsUserConfig}
-use Rattle.update_model.specs.declared.Change.{Change}
-use Rattle.certificates.specs.Certified.{classes_for, IsCertified}
-use Rattle.certificates.specs.declared.Evidence.TheVariants.{TwoPhase}
 use Rattle.dest_classes.proofs.ClassLaws.{in_ascending}
 use Rattle.tag_allocator.specs.Tags.{numbers_from}
 use Rattle.tag_allocator.proofs.TagLaws.{in_numbers, numbers_length}
-use Rattle.two_phase.specs.Laws.{FitsTwoPhase}
 use Rattle.two_phase.specs.TwoPhasePlan.{ingress_rules, switches, ranks}
-use Rattle.two_phase.specs.Depths.{is_above, greatest, depth_through, depth_of, ingress_depth, depth_count, depths, depth_rounds, depth_task, depth_evidence}
+use Rattle.two_phase.specs.Depths.{is_above, greatest, depth_through, depth_of, ingress_depth, depth_count, depths, depth_rounds}
 use Rattle.two_phase.proofs.LayerLaws.{IsLayering}
 use Rattle.two_phase.proofs.RankLaws.{IsRising, falling_reverse, in_reverse, has_rank}
 use Rattle.two_phase.proofs.ValidCounts.{few_ranks, rounds_count, switch_within}
-use Rattle.two_phase.proofs.CertifiedLaws.{layered_certified}
 
 -- ---- the greatest of numbers
 
@@ -209,9 +201,3 @@ depth_rounds_count net old new =
     let down = (depth_layering net new).laid_count in
     let up = (depth_layering net new).taken_count in
     omega arith
-
-pub depth_certified : (net : Network) → IsNetwork net → (old new : List (List Rule)) → IsUserConfig net old → IsUserConfig net new → FitsTwoPhase net old new → (demands : List DemandView)
-    (tried : List (List Change)) → HasGoodPaths net old demands (classes_for (depth_task net old new demands)) → HasGoodPaths net new demands (classes_for (depth_task net old new demands))
-    → IsCertified (depth_task net old new demands) (TwoPhase (depth_evidence net new tried))
-depth_certified net is old new old_user new_user =
-    layered_certified net is old new old_user new_user (ingress_depth net new) (λ a b. a < b) (depth_count net new) (depths net new) (reverse (depths net new)) (depth_layering net new)

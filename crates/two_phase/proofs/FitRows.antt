@@ -91,57 +91,46 @@ block_P = record { length = omega arith; base = omega arith; aligned = refl }
 user_rule : (s n : ℕ) → IsUsed net_L (stop s n) → IsUserRule net_L (sw s) (to n)
 user_rule s n used = record { above = omega arith; below = omega arith; port = tt; vlan = tt; dst = block_P; action = (used, refl) }
 
-old_is : IsUserConfig net_L L_old
-old_is = record {
-  count = refl;
-  few = omega arith;
-  distinct = λ s. each_get_or IsTable L_old s.0 [] ((λ i. i, tt), ((λ i. i, tt), ((λ i. i, tt), ((λ i. i, tt), ((λ i. i, tt), tt))))) tt;
-  clear = all_clear L_old (one_clear (to 2), (one_clear (to 2), (one_clear (to 2), (one_clear (to 2), (one_clear (to 3), tt)))));
-  fits = λ s inside. within s.0 inside;
-  rules = λ s. user s.0;
-}
-  where
-    within : (n : ℕ) → n < 5 → length (rules_at L_old (sw n)) ≤ capacity_of net_L (sw n)
-    within zero less = omega arith
-    within (suc zero) less = omega arith
-    within (suc (suc zero)) less = omega arith
-    within (suc (suc (suc zero))) less = omega arith
-    within (suc (suc (suc (suc zero)))) less = omega arith
-    within (suc (suc (suc (suc (suc n))))) less = absurd (omega arith)
+-- a configuration of one rule at each switch, which sends to a port in use
+module _ (a b c d e : ℕ) where
+  abbrev one_each : List (List Rule)
+  one_each = (to a ∷ []) ∷ (to b ∷ []) ∷ (to c ∷ []) ∷ (to d ∷ []) ∷ (to e ∷ []) ∷ []
 
-    user : (n : ℕ) → AllByRecursion (IsUserRule net_L (sw n)) (rules_at L_old (sw n))
-    user zero = (user_rule 0 2 (inr (inr (inl refl))), tt)
-    user (suc zero) = (user_rule 1 2 (inr (inr (inr (inr (inl refl))))), tt)
-    user (suc (suc zero)) = (user_rule 2 2 (inr (inr (inr (inr (inr (inr (inl refl))))))), tt)
-    user (suc (suc (suc zero))) = (user_rule 3 2 (inr (inr (inr (inr (inr (inr (inr (inr (inl refl))))))))), tt)
-    user (suc (suc (suc (suc zero)))) = (user_rule 4 3 (inr (inl refl)), tt)
-    user (suc (suc (suc (suc (suc n))))) = tt
+  one_each_is : IsUsed net_L (stop 0 a) → IsUsed net_L (stop 1 b) → IsUsed net_L (stop 2 c) → IsUsed net_L (stop 3 d) → IsUsed net_L (stop 4 e) → IsUserConfig net_L one_each
+  one_each_is used_a used_b used_c used_d used_e = record {
+    count = refl;
+    few = omega arith;
+    distinct = λ s. each_get_or IsTable one_each s.0 [] ((λ i. i, tt), ((λ i. i, tt), ((λ i. i, tt), ((λ i. i, tt), ((λ i. i, tt), tt))))) tt;
+    clear = all_clear one_each (one_clear (to a), (one_clear (to b), (one_clear (to c), (one_clear (to d), (one_clear (to e), tt)))));
+    fits = λ s inside. within s.0 inside;
+    rules = λ s. user s.0;
+  }
+    where
+      within : (n : ℕ) → n < 5 → length (rules_at one_each (sw n)) ≤ capacity_of net_L (sw n)
+      within zero less = omega arith
+      within (suc zero) less = omega arith
+      within (suc (suc zero)) less = omega arith
+      within (suc (suc (suc zero))) less = omega arith
+      within (suc (suc (suc (suc zero)))) less = omega arith
+      within (suc (suc (suc (suc (suc n))))) less = absurd (omega arith)
+
+      user : (n : ℕ) → AllByRecursion (IsUserRule net_L (sw n)) (rules_at one_each (sw n))
+      user zero = (user_rule 0 a used_a, tt)
+      user (suc zero) = (user_rule 1 b used_b, tt)
+      user (suc (suc zero)) = (user_rule 2 c used_c, tt)
+      user (suc (suc (suc zero))) = (user_rule 3 d used_d, tt)
+      user (suc (suc (suc (suc zero)))) = (user_rule 4 e used_e, tt)
+      user (suc (suc (suc (suc (suc n))))) = tt
+
+old_is : IsUserConfig net_L L_old
+old_is =
+    one_each_is 2 2 2 2 3 (inr (inr (inl refl))) (inr (inr (inr (inr (inl refl))))) (inr (inr (inr (inr (inr (inr (inl refl))))))) (inr (inr (inr (inr (inr (inr (inr (inr (inl refl)))))))))
+    (inr (inl refl))
 
 new_is : IsUserConfig net_L L_new
-new_is = record {
-  count = refl;
-  few = omega arith;
-  distinct = λ s. each_get_or IsTable L_new s.0 [] ((λ i. i, tt), ((λ i. i, tt), ((λ i. i, tt), ((λ i. i, tt), ((λ i. i, tt), tt))))) tt;
-  clear = all_clear L_new (one_clear (to 3), (one_clear (to 3), (one_clear (to 1), (one_clear (to 1), (one_clear (to 3), tt)))));
-  fits = λ s inside. within s.0 inside;
-  rules = λ s. user s.0;
-}
-  where
-    within : (n : ℕ) → n < 5 → length (rules_at L_new (sw n)) ≤ capacity_of net_L (sw n)
-    within zero less = omega arith
-    within (suc zero) less = omega arith
-    within (suc (suc zero)) less = omega arith
-    within (suc (suc (suc zero))) less = omega arith
-    within (suc (suc (suc (suc zero)))) less = omega arith
-    within (suc (suc (suc (suc (suc n))))) less = absurd (omega arith)
-
-    user : (n : ℕ) → AllByRecursion (IsUserRule net_L (sw n)) (rules_at L_new (sw n))
-    user zero = (user_rule 0 3 (inr (inr (inr (inr (inr (inr (inr (inr (inr (inr (inl refl))))))))))), tt)
-    user (suc zero) = (user_rule 1 3 (inr (inr (inr (inr (inr (inr (inr (inr (inr (inr (inr (inr (inl refl))))))))))))), tt)
-    user (suc (suc zero)) = (user_rule 2 1 (inr (inr (inr (inr (inr (inl refl)))))), tt)
-    user (suc (suc (suc zero))) = (user_rule 3 1 (inr (inr (inr (inr (inr (inr (inr (inl refl)))))))), tt)
-    user (suc (suc (suc (suc zero)))) = (user_rule 4 3 (inr (inl refl)), tt)
-    user (suc (suc (suc (suc (suc n))))) = tt
+new_is =
+    one_each_is 3 3 1 1 3 (inr (inr (inr (inr (inr (inr (inr (inr (inr (inr (inl refl))))))))))) (inr (inr (inr (inr (inr (inr (inr (inr (inr (inr (inr (inr (inl refl)))))))))))))
+    (inr (inr (inr (inr (inr (inl refl)))))) (inr (inr (inr (inr (inr (inr (inr (inl refl)))))))) (inr (inl refl))
 
 fits : FitsTwoPhase net_L L_old L_new
 fits = record { tags = omega arith; room = λ s inside. within s.0 inside }

@@ -11,7 +11,7 @@ use Rattle.certificates.specs.declared.Label.{Label}
 use Rattle.certificates.specs.declared.LabelPick.{LabelPick}
 use Rattle.certificates.specs.TwoPhase.{IsLabelPickInForce}
 use Rattle.tag_allocator.specs.Tags.{Tagged, tags_of}
-use Rattle.two_phase.specs.TwoPhasePlan.{label, vlan_number, with_label, labels_in_order, label_table, label_tables}
+use Rattle.two_phase.specs.TwoPhasePlan.{label, vlan_number, with_label, labels_in_order, label_table, label_tables, label_picks}
 use Rattle.net_base.proofs.ListLaws.{in_flat_map, in_from_flat_map}
 use Rattle.two_phase.proofs.TagLaws.{IsTagging}
 
@@ -61,10 +61,6 @@ module _ (net : Network) (version : Bool) where
       let (v, j, k) = label_cases l i in
       elim k [ inl e ↦ subst (λ x. IsIn x.user net.vlans) (sym e) (tags.declared v j) | inr e ↦ subst (λ x. IsIn x.user net.vlans) (sym e) (tags.declared v j) ])
 
--- the picks of a plan with so many layers of ingress rules
-abbrev pub picks_of : ℕ → List LabelPick
-picks_of layers = record { round = 1; labels = 0 } ∷ record { round = layers + 2; labels = 1 } ∷ []
-
 abbrev pub pick_of : ℕ → Bool → LabelPick
 pick_of layers false = record { round = 1; labels = 0 }
 pick_of layers true = record { round = layers + 2; labels = 1 }
@@ -74,7 +70,7 @@ abbrev pub IsOfVersion : ℕ → ℕ → Bool → Type 0
 IsOfVersion layers k false = k ≤ layers
 IsOfVersion layers k true = suc layers ≤ k
 
-pub in_force : (layers k : ℕ) (version : Bool) → IsOfVersion layers k version → IsLabelPickInForce (picks_of layers) (suc k) (pick_of layers version)
+pub in_force : (layers k : ℕ) (version : Bool) → IsOfVersion layers k version → IsLabelPickInForce (label_picks layers) (suc k) (pick_of layers version)
 in_force layers k false of = record {
   stands = inl refl;
   begun = omega arith;

@@ -15,8 +15,7 @@ use Rattle.update_model.specs.Mixtures.{IsMixture}
 use Rattle.update_model.specs.declared.Change.{Change}
 use Rattle.update_model.specs.declared.Change.TheVariants.{Insert, Delete}
 use Rattle.update_model.proofs.ChangeLaws.{length-tables_after}
-use Rattle.two_phase.specs.TwoPhasePlan.{two_phase_need}
-use Rattle.two_phase.specs.Depths.{of_mark}
+use Rattle.two_phase.specs.TwoPhasePlan.{two_phase_need, of_mark}
 use Rattle.two_phase.proofs.TagLaws.{IsTagging}
 use Rattle.two_phase.proofs.BandLaws.{tagged_low, tagged_high, ingress_low}
 use Rattle.two_phase.proofs.DistinctLaws.{ingress_distinct}

@@ -15,8 +15,7 @@ use Rattle.update_model.specs.Remaining.{remaining_changes}
 use Rattle.update_model.specs.declared.Change.{Change}
 use Rattle.update_model.specs.declared.Change.TheVariants.{Insert, Delete, Replace}
 use Rattle.update_model.proofs.DifferenceLaws.{IsDifference, remaining_is, difference_switch}
-use Rattle.two_phase.specs.TwoPhasePlan.{tagged_rules, ingress_rules, in_key_order, switches, by_switch}
-use Rattle.two_phase.specs.Depths.{of_mark, layered_rounds}
+use Rattle.two_phase.specs.TwoPhasePlan.{tagged_rules, ingress_rules, in_key_order, switches, by_switch, of_mark, layered_rounds}
 use Rattle.two_phase.proofs.DistinctLaws.{from_ordered}
 use Rattle.two_phase.proofs.ValidCounts.{switch_within}
 

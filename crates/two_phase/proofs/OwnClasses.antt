@@ -1,6 +1,6 @@
 -- The plan's rounds bring in no prefix of their own, so its classes are those of the configurations and the demands.
 use Rattle.std.proofs.Common.{◌≡◌, ◌⊎◌, ℕ, zero, suc, ◌+◌, ◌*◌, List, [], ◌∷◌, ◌++◌, map, length, get_or, sym, ◌∙◌, subst, ap, inl, inr}
-use Rattle.std.specs.Prelude.{slice_get, Some, reverse}
+use Rattle.std.specs.Prelude.{slice_get, Some}
 use Rattle.std.specs.List.{AllByRecursion}
 use Rattle.net_base.specs.Blocks.{Block}
 use Rattle.net_base.specs.Members.{IsIn}
@@ -21,13 +21,13 @@ use Rattle.update_model.specs.Changes.{rule_of}
 use Rattle.update_model.specs.declared.Change.{Change}
 use Rattle.certificates.specs.Certified.{classes_for}
 use Rattle.table_difference.specs.SameClasses.{HasSameClasses, MakeNoClasses, BringNoPrefix, classes_before, every_address}
-use Rattle.two_phase.specs.Laws.{FitsTwoPhase, two_phase_task}
-use Rattle.two_phase.specs.Plans.{two_phase_plan, IsCertifiedTwoPhase}
-use Rattle.two_phase.specs.TwoPhasePlan.{two_phase_rounds, ranks}
-use Rattle.two_phase.specs.Depths.{layered_rounds, ingress_depth, depths, depth_rounds, depth_task, depth_plan, IsCertifiedByDepth}
+use Rattle.two_phase.specs.Laws.{FitsTwoPhase, task_by}
+use Rattle.two_phase.specs.Plans.{layered_plan, IsCertifiedWith}
+use Rattle.two_phase.specs.TwoPhasePlan.{layered_rounds}
+use Rattle.two_phase.specs.Layers.{laying_order, taking_order, layer_count, ingress_layer, rounds_by}
+use Rattle.two_phase.specs.declared.layers.Layering.{Layering}
 use Rattle.two_phase.proofs.BandLaws.{tagged_cases, ingress_cases}
-use Rattle.two_phase.proofs.CertifiedLaws.{two_phase_certified}
-use Rattle.two_phase.proofs.DepthLaws.{depth_certified}
+use Rattle.two_phase.proofs.CertifiedLaws.{layered_certified}
 use Rattle.two_phase.proofs.OwnChanges.{IsOfPlan, IsAmong, all_of_plan}
 
 -- a class of the one list is one of the other
@@ -81,24 +81,15 @@ module _ (net : Network) (old new : List (List Rule)) where
         let of = each_at (IsOfPlan net old new) round c (each_at (AllByRecursion (IsOfPlan net old new)) rounds round (all_of_plan net old new mark laid taken count) j) l in
         subst IsKnown (sym e) (known_rule of.at (rule_of c) of.among)
 
-    pub own_classes : MakeNoClasses net old new → (demands : List DemandView) → HasSameClasses (classes_for (two_phase_task net old new demands)) (classes_before net old new demands)
-    own_classes none demands = none demands (two_phase_rounds net old new) (no_prefix (λ s r. r.key.priority) (reverse (ranks net new)) (ranks net new))
-
-    pub depth_classes : MakeNoClasses net old new → (demands : List DemandView) → HasSameClasses (classes_for (depth_task net old new demands)) (classes_before net old new demands)
-    depth_classes none demands = none demands (depth_rounds net old new) (no_prefix (ingress_depth net new) (depths net new) (reverse (depths net new)))
+    pub own_classes : (layering : Layering) → MakeNoClasses net old new → (demands : List DemandView)
+        → HasSameClasses (classes_for (task_by net old new (rounds_by layering net old new) demands)) (classes_before net old new demands)
+    own_classes layering none demands = none demands (rounds_by layering net old new) (no_prefix (ingress_layer layering net new) (laying_order layering net new) (taking_order layering net new))
 
 pub certified_before : (net : Network) → IsNetwork net → (old new : List (List Rule)) → IsUserConfig net old → IsUserConfig net new → FitsTwoPhase net old new → MakeNoClasses net old new
-    → (tried : List (List Change)) → IsCertifiedTwoPhase net old new (two_phase_plan net old new tried)
-certified_before net is old new old_user new_user fits none tried demands old_good new_good =
-    let same = own_classes net old new old_user.count none demands in
-    let a = classes_for (two_phase_task net old new demands) in
+    → (layering : Layering) (tried : List (List Change))
+    → IsCertifiedWith net old new (rounds_by layering net old new) (layered_plan net (rounds_by layering net old new) (layer_count layering net new) tried)
+certified_before net is old new old_user new_user fits none layering tried demands old_good new_good =
+    let same = own_classes net old new old_user.count layering none demands in
+    let a = classes_for (task_by net old new (rounds_by layering net old new) demands) in
     let b = classes_before net old new demands in
-    two_phase_certified net is old new old_user new_user fits demands tried (good_carried net old demands a b same old_good) (good_carried net new demands a b same new_good)
-
-pub depth_certified_before : (net : Network) → IsNetwork net → (old new : List (List Rule)) → IsUserConfig net old → IsUserConfig net new → FitsTwoPhase net old new → MakeNoClasses net old new
-    → (tried : List (List Change)) → IsCertifiedByDepth net old new (depth_plan net old new tried)
-depth_certified_before net is old new old_user new_user fits none tried demands old_good new_good =
-    let same = depth_classes net old new old_user.count none demands in
-    let a = classes_for (depth_task net old new demands) in
-    let b = classes_before net old new demands in
-    depth_certified net is old new old_user new_user fits demands tried (good_carried net old demands a b same old_good) (good_carried net new demands a b same new_good)
+    layered_certified net is old new old_user new_user layering fits demands tried (good_carried net old demands a b same old_good) (good_carried net new demands a b same new_good)

@@ -14,8 +14,7 @@ use Rattle.update_model.specs.declared.Change.{Change}
 use Rattle.update_model.specs.declared.Change.TheVariants.{Insert, Delete}
 use Rattle.update_model.proofs.MadeLaws.{distinct_some}
 use Rattle.update_model.specs.Mixtures.{is_insert}
-use Rattle.two_phase.specs.TwoPhasePlan.{tagged_rules, ingress_rules, by_switch, two_phase_need}
-use Rattle.two_phase.specs.Depths.{of_mark, layered_rounds}
+use Rattle.two_phase.specs.TwoPhasePlan.{tagged_rules, ingress_rules, by_switch, two_phase_need, of_mark, layered_rounds}
 use Rattle.two_phase.proofs.TagLaws.{IsTagging}
 use Rattle.update_model.proofs.MatchLaws.{some_filter}
 use Rattle.two_phase.proofs.DistinctLaws.{tagged_distinct, ingress_distinct, by_switch_sweeps}

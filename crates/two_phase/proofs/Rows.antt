@@ -1,5 +1,5 @@
 -- Worked examples: the net of five switches, where the two-phase plan is needed, and the net of four.
-use Rattle.std.proofs.Common.{◌≡◌, ℕ, true, false, List, [], ◌∷◌, refl, inl}
+use Rattle.std.proofs.Common.{◌≡◌, ℕ, true, false, List, [], ◌∷◌, length, refl, inl}
 use Rattle.std.specs.Prelude.{Some, None}
 use Rattle.net_base.specs.declared.ids.Port.{Port}
 use Rattle.net_base.specs.declared.ids.SwitchId.{SwitchId}
@@ -23,7 +23,7 @@ use Rattle.update_model.specs.declared.Change.{Change}
 use Rattle.update_model.specs.declared.Change.TheVariants.{Insert, Delete, Replace}
 use Rattle.certificates.specs.Certified.{blocks_of}
 use Rattle.table_difference.specs.SameClasses.{every_address}
-use Rattle.two_phase.specs.TwoPhasePlan.{rule, two_phase_rounds, label_tables, label_picks, two_phase_need, label}
+use Rattle.two_phase.specs.TwoPhasePlan.{rule, two_phase_rounds, label_tables, label_picks, ranks, two_phase_need, label}
 
 abbrev pub sw : ℕ → SwitchId
 sw n = record { 0 = n }
@@ -100,7 +100,7 @@ two_tables : label_tables net_L ≡
     ∷ (label vlan.Untagged true vlan.Untagged ∷ label (vlan.Id 3000) true vlan.Untagged ∷ []) ∷ []
 two_tables = refl
 
-picks : label_picks net_L L_new ≡ record { round = 1; labels = 0 } ∷ record { round = 4; labels = 1 } ∷ []
+picks : label_picks (length (ranks net_L L_new)) ≡ record { round = 1; labels = 0 } ∷ record { round = 4; labels = 1 } ∷ []
 picks = refl
 
 -- one switch with two hosts, two declared VLANs and a single tag: all declared VLANs are counted

@@ -23,8 +23,7 @@ use Rattle.tag_allocator.specs.Tags.{numbers_from}
 use Rattle.tag_allocator.proofs.TagLaws.{numbers_length, numbers_below}
 use Rattle.table_difference.specs.Tried.{AreTried}
 use Rattle.two_phase.specs.Laws.{FitsTwoPhase}
-use Rattle.two_phase.specs.TwoPhasePlan.{tagged_rules, ingress_rules, with_rule, in_key_order, switches, by_switch, ranks}
-use Rattle.two_phase.specs.Depths.{of_mark, layered_rounds}
+use Rattle.two_phase.specs.TwoPhasePlan.{tagged_rules, ingress_rules, with_rule, in_key_order, switches, by_switch, ranks, of_mark, layered_rounds}
 use Rattle.two_phase.proofs.CountLaws.{tagged_counted, ingress_counted}
 use Rattle.two_phase.proofs.CountedLaws.{capacity_most}
 use Rattle.two_phase.proofs.BandLaws.{ingress_cases}

@@ -1,8 +1,6 @@
--- The two-phase plan is valid.
-use Rattle.std.proofs.Common.{◌≡◌, ℕ, ◌<◌, ◌≤◌, Bool, true, false, List, [], ◌∷◌, length, sym, ◌∙◌, subst, ap, inl, inr, arith}
-use Rattle.std.specs.Prelude.{reverse}
+-- The two-phase plan is valid, by rank as well as by depth.
+use Rattle.std.proofs.Common.{◌≡◌, ◌<◌, Bool, true, false, List, [], ◌∷◌, sym, ◌∙◌, subst, ap, inl, inr, arith}
 use Rattle.net_base.proofs.MemberLaws.{each_from_in}
-use Rattle.net_base.specs.declared.ids.SwitchId.{SwitchId}
 use Rattle.net_base.specs.declared.ids.Vlan.{Vlan}
 use Rattle.net_base.specs.declared.ids.Vlan.TheVariants as vlan
 use Rattle.topology.specs.Networks.{Network, IsNetwork, IsVlan}
@@ -10,23 +8,21 @@ use Rattle.flow_rules.specs.declared.rules.Rule.{Rule}
 use Rattle.path_walk.specs.UserConfigs.{IsUserConfig}
 use Rattle.update_model.specs.declared.Change.{Change}
 use Rattle.certificates.specs.Valid.{IsChain, IsVlanBefore, IsValidTable, IsValidPlan}
-use Rattle.certificates.specs.declared.Evidence.TheVariants.{TwoPhase}
-use Rattle.certificates.specs.declared.Plan.{Plan}
 use Rattle.certificates.specs.declared.Label.{Label}
 use Rattle.certificates.specs.declared.LabelPick.{LabelPick}
 use Rattle.certificates.specs.declared.TwoPhaseEvidence.{TwoPhaseEvidence}
 use Rattle.two_phase.specs.Laws.{FitsTwoPhase}
 use Rattle.table_difference.specs.Tried.{AreTried}
-use Rattle.two_phase.specs.Plans.{two_phase_plan}
-use Rattle.two_phase.specs.TwoPhasePlan.{label_table, label_tables, vlan_number, ranks}
-use Rattle.two_phase.specs.Depths.{layered_rounds, ingress_depth, depth_count, depths, depth_plan}
+use Rattle.two_phase.specs.Plans.{layered_plan}
+use Rattle.two_phase.specs.TwoPhasePlan.{label_table, vlan_number}
+use Rattle.two_phase.specs.Layers.{laying_order, taking_order, layer_count, ingress_layer, rounds_by}
+use Rattle.two_phase.specs.declared.layers.Layering.{Layering}
 use Rattle.two_phase.proofs.TagLaws.{tagging}
-use Rattle.two_phase.proofs.LabelLaws.{label_cases, picks_of}
-use Rattle.two_phase.proofs.LayerLaws.{IsLayering, laid_distinct, taken_distinct}
-use Rattle.two_phase.proofs.RankLaws.{rank_layering}
-use Rattle.two_phase.proofs.DepthLaws.{depth_layering, few_depths}
+use Rattle.two_phase.proofs.LabelLaws.{label_cases}
+use Rattle.two_phase.proofs.LayerLaws.{laid_distinct, taken_distinct}
+use Rattle.two_phase.proofs.LayeringLaws.{is_earlier, layering_is, few_layers}
 use Rattle.two_phase.proofs.LabelOrderLaws.{Ascend, table_ascends}
-use Rattle.two_phase.proofs.ValidCounts.{few_ranks, rounds_count, changes_few, tried_few}
+use Rattle.two_phase.proofs.ValidCounts.{rounds_count, changes_few, tried_few}
 use Rattle.two_phase.proofs.ValidRules.{tag_id, user_vlan, changes_plan}
 
 vlan_before : (v w : Vlan) → vlan_number v < vlan_number w → IsVlanBefore v w
@@ -53,39 +49,34 @@ module _ (net : Network) (is : IsNetwork net) (old new : List (List Rule)) (old_
     chain_from_ascent (label_table net version) (table_ascends net version (tagging net is fits.tags)),
   )
 
-  module _ (mark : SwitchId → Rule → ℕ) (before : ℕ → ℕ → Type 0) (layers : ℕ) (laid taken : List ℕ) (layering : IsLayering net new mark before layers laid taken) (few : layers ≤ 2049)
-      (tried : List (List Change)) (are : AreTried net tried) where
-    abbrev layered_plan : Plan
-    layered_plan = record { rounds = layered_rounds net old new mark laid taken; evidence = TwoPhase (record { labels = label_tables net; picks = picks_of layers; tried = tried }) }
-
-    layered_valid : IsValidPlan net layered_plan
-    layered_valid =
-        let count = rounds_count net old new mark laid taken in
-        let down = layering.laid_count in
-        let up = layering.taken_count in
-        let changes = changes_few net is old new fits old_user.few new_user.few mark laid taken (laid_distinct net new mark before layers laid taken layering) (taken_distinct net new mark before layers laid taken layering) in
-        let more = tried_few net tried are in
-        record {
-          few_rounds = omega arith;
+  pub plan_valid : (layering : Layering) (tried : List (List Change)) → AreTried net tried
+      → IsValidPlan net (layered_plan net (rounds_by layering net old new) (layer_count layering net new) tried)
+  plan_valid layering tried are =
+      let mark = ingress_layer layering net new in
+      let before = is_earlier layering in
+      let layers = layer_count layering net new in
+      let laid = laying_order layering net new in
+      let taken = taking_order layering net new in
+      let layered = layering_is layering net new in
+      let few = few_layers layering net new new_user.few in
+      let count = rounds_count net old new mark laid taken in
+      let down = layered.laid_count in
+      let up = layered.taken_count in
+      let changes = changes_few net is old new fits old_user.few new_user.few mark laid taken (laid_distinct net new mark before layers laid taken layered) (taken_distinct net new mark before layers laid taken layered) in
+      let more = tried_few net tried are in
+      record {
+        few_rounds = omega arith;
+        few_changes = omega arith;
+        rounds = changes_plan net is old new old_user new_user mark laid taken;
+        evidence = record {
+          labels = (table_valid false, (table_valid true, tt));
+          picks = ((omega arith, omega arith, omega arith, omega arith), ((omega arith, omega arith, omega arith, omega arith), tt));
+          ascending = (omega arith, tt);
+          few_tried = are.few;
           few_changes = omega arith;
-          rounds = changes_plan net is old new old_user new_user mark laid taken;
-          evidence = record {
-            labels = (table_valid false, (table_valid true, tt));
-            picks = ((omega arith, omega arith, omega arith, omega arith), ((omega arith, omega arith, omega arith, omega arith), tt));
-            ascending = (omega arith, tt);
-            few_tried = are.few;
-            few_changes = omega arith;
-            tried = are.ranges;
-          };
-        }
-
-  pub plan_valid : (tried : List (List Change)) → AreTried net tried → IsValidPlan net (two_phase_plan net old new tried)
-  plan_valid =
-      layered_valid (λ s r. r.key.priority) (λ a b. b < a) (length (ranks net new)) (reverse (ranks net new)) (ranks net new) (rank_layering net new) (few_ranks net new new_user.few)
-
-  pub depth_valid : (tried : List (List Change)) → AreTried net tried → IsValidPlan net (depth_plan net old new tried)
-  depth_valid =
-      layered_valid (ingress_depth net new) (λ a b. a < b) (depth_count net new) (depths net new) (reverse (depths net new)) (depth_layering net new) (few_depths net new new_user.few)
+          tried = are.ranges;
+        };
+      }
 
 -- evidence is its three parts
 pub same_evidence : (e : TwoPhaseEvidence) (labels : List (List Label)) (picks : List LabelPick) (tried : List (List Change)) → e.labels ≡ labels → e.picks ≡ picks → e.tried ≡ tried

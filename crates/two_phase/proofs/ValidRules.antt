@@ -26,8 +26,7 @@ use Rattle.plan_rules.proofs.UserRules.{keep_plan, change_plan, used_number, por
 use Rattle.tag_allocator.specs.Tags.{Tagged, tags_of, available_tags}
 use Rattle.tag_allocator.proofs.TagLaws.{tag_available}
 use Rattle.table_difference.specs.SameClasses.{every_address}
-use Rattle.two_phase.specs.TwoPhasePlan.{is_host, is_link, restore, test_of, tagged_action, ingress_action, tagged_rules, ingress_rules, hosts_of}
-use Rattle.two_phase.specs.Depths.{layered_rounds}
+use Rattle.two_phase.specs.TwoPhasePlan.{is_host, is_link, restore, test_of, tagged_action, ingress_action, tagged_rules, ingress_rules, hosts_of, layered_rounds}
 use Rattle.two_phase.proofs.TagLaws.{paired_user, paired_tag}
 use Rattle.two_phase.proofs.BandLaws.{tagged_cases, ingress_cases}
 use Rattle.two_phase.proofs.OwnChanges.{IsOfPlan, IsAmong, all_of_plan}

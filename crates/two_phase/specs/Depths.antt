@@ -1,25 +1,18 @@
 -- Two phases by depth: the two-phase plan whose ranks are depths, so that ingress rules without a common packet are laid in one round.
-use Rattle.std.specs.Prelude.{ℕ, zero, suc, ◌+◌, ◌==◌, ◌&&◌, not, nat_lt, max, Bool, List, [], ◌∷◌, ◌++◌, length, map, reverse, filter, flat_map}
+use Rattle.std.specs.Prelude.{ℕ, zero, suc, ◌&&◌, nat_lt, max, Bool, List, [], ◌∷◌, length, map, reverse, filter, flat_map}
 use Rattle.net_base.specs.declared.ids.SwitchId.{SwitchId}
 use Rattle.topology.specs.Networks.{Network}
 use Rattle.flow_rules.specs.Overlaps.{patterns_meet}
 use Rattle.flow_rules.specs.Tables.{rules_at}
 use Rattle.flow_rules.specs.declared.rules.Rule.{Rule}
 use Rattle.demands.specs.Duties.{DemandView}
-use Rattle.demands.specs.Good.{HasGoodPaths}
-use Rattle.update_model.specs.Mixtures.{is_insert}
-use Rattle.update_model.specs.Remaining.{remaining_changes}
 use Rattle.update_model.specs.declared.Change.{Change}
-use Rattle.update_model.specs.declared.Change.TheVariants.{Insert, Delete}
 use Rattle.certificates.specs.Updates.{Task}
-use Rattle.certificates.specs.Certified.{IsCertified}
-use Rattle.certificates.specs.declared.Evidence.TheVariants.{TwoPhase}
-use Rattle.certificates.specs.declared.LabelPick.{LabelPick}
 use Rattle.certificates.specs.declared.Plan.{Plan}
-use Rattle.certificates.specs.declared.TwoPhaseEvidence.{TwoPhaseEvidence}
-use Rattle.table_difference.specs.SameClasses.{classes_before}
 use Rattle.tag_allocator.specs.Tags.{numbers_from}
-use Rattle.two_phase.specs.TwoPhasePlan.{tagged_rules, ingress_rules, by_switch, switches, label_tables}
+use Rattle.two_phase.specs.TwoPhasePlan.{ingress_rules, layered_rounds, switches}
+use Rattle.two_phase.specs.Laws.{task_by}
+use Rattle.two_phase.specs.Plans.{layered_plan, IsCertifiedWith}
 
 -- whether a rule is above another: it has the higher priority, and some packet is covered by both
 abbrev pub is_above : Rule → Rule → Bool
@@ -51,45 +44,18 @@ depth_count net new = suc (greatest (flat_map (λ s. map (ingress_depth net new 
 abbrev pub depths : Network → List (List Rule) → List ℕ
 depths net new = numbers_from 0 (depth_count net new)
 
--- the ingress rules with a mark
-abbrev pub of_mark : Network → List (List Rule) → (SwitchId → Rule → ℕ) → ℕ → SwitchId → List Rule
-of_mark net new mark k s = filter (λ r. mark s r == k) (ingress_rules net s (rules_at new s))
-
--- the rounds of a two-phase plan that inserts the ingress rules mark by mark in the one order, and deletes them mark by mark in the other
-abbrev pub layered_rounds : Network → List (List Rule) → List (List Rule) → (SwitchId → Rule → ℕ) → List ℕ → List ℕ → List (List Change)
-layered_rounds net old new mark laid taken =
-    (by_switch net Insert (λ s. tagged_rules net s (rules_at new s)) ∷ [])
-    ++ map (λ k. by_switch net Insert (of_mark net new mark k)) laid
-    ++ (filter (λ c. not (is_insert c)) (remaining_changes old new) ∷ filter is_insert (remaining_changes old new) ∷ [])
-    ++ map (λ k. by_switch net Delete (of_mark net new mark k)) taken
-    ++ (by_switch net Delete (λ s. tagged_rules net s (rules_at new s)) ∷ [])
-
 -- the rounds of the two-phase plan by depth: the ingress rules come by ascending depth and go by descending depth
 abbrev pub depth_rounds : Network → List (List Rule) → List (List Rule) → List (List Change)
 depth_rounds net old new = layered_rounds net old new (ingress_depth net new) (depths net new) (reverse (depths net new))
 
--- the first label table is in force from round 1, the second from the round of the exchange
-abbrev pub depth_picks : Network → List (List Rule) → List LabelPick
-depth_picks net new = record { round = 1; labels = 0 } ∷ record { round = depth_count net new + 2; labels = 1 } ∷ []
-
 -- the update by the two-phase plan by depth under demands
 abbrev pub depth_task : Network → List (List Rule) → List (List Rule) → List DemandView → Task
-depth_task net old new demands = record {
-  update = record { net = net; old = old; new = new; demands = demands };
-  rounds = depth_rounds net old new;
-}
-
--- the evidence of the two-phase plan by depth, with the rounds that were tried before
-abbrev pub depth_evidence : Network → List (List Rule) → List (List Change) → TwoPhaseEvidence
-depth_evidence net new tried = record { labels = label_tables net; picks = depth_picks net new; tried = tried }
+depth_task net old new demands = task_by net old new (depth_rounds net old new) demands
 
 -- the two-phase plan by depth, with the rounds that were tried before
 abbrev pub depth_plan : Network → List (List Rule) → List (List Rule) → List (List Change) → Plan
-depth_plan net old new tried = record { rounds = depth_rounds net old new; evidence = TwoPhase (depth_evidence net new tried) }
+depth_plan net old new tried = layered_plan net (depth_rounds net old new) (depth_count net new) tried
 
 -- the plan is certified for all demands under which both configurations have good paths for their own classes
 abbrev pub IsCertifiedByDepth : Network → List (List Rule) → List (List Rule) → Plan → Type 0
-IsCertifiedByDepth net old new plan =
-    (demands : List DemandView)
-    → HasGoodPaths net old demands (classes_before net old new demands) → HasGoodPaths net new demands (classes_before net old new demands)
-    → IsCertified (depth_task net old new demands) plan.evidence
+IsCertifiedByDepth net old new plan = IsCertifiedWith net old new (depth_rounds net old new) plan

@@ -1,5 +1,5 @@
 -- The two-phase plan as a whole, and why there is none.
-use Rattle.std.specs.Prelude.{◌≡◌, ℕ, ◌+◌, ◌<◌, ◌≤◌, List, [], ◌∷◌, length}
+use Rattle.std.specs.Prelude.{◌≡◌, ℕ, ◌<◌, ◌≤◌, List, length}
 use Rattle.net_base.specs.declared.ids.SwitchId.{SwitchId}
 use Rattle.topology.specs.Networks.{Network, switch_count, capacity_of}
 use Rattle.flow_rules.specs.declared.rules.Rule.{Rule}
@@ -11,22 +11,18 @@ use Rattle.certificates.specs.declared.Evidence.TheVariants.{TwoPhase}
 use Rattle.certificates.specs.declared.Plan.{Plan}
 use Rattle.tag_allocator.specs.Tags.{available_tags}
 use Rattle.table_difference.specs.SameClasses.{classes_before}
-use Rattle.two_phase.specs.TwoPhasePlan.{label_tables, two_phase_rounds, two_phase_need}
-use Rattle.two_phase.specs.Laws.{two_phase_task, two_phase_evidence}
+use Rattle.two_phase.specs.TwoPhasePlan.{two_phase_rounds, ranks, two_phase_need}
+use Rattle.two_phase.specs.Laws.{task_by, layered_evidence}
 use Rattle.two_phase.specs.declared.planning.TwoFault.{TwoFault}
 use Rattle.two_phase.specs.declared.planning.TwoFault.TheVariants.{TooFewTags, TooSmall, Memory}
 
+-- a two-phase plan of these rounds, with so many layers of ingress rules, ranks or depths, and with the rounds that were tried before
+abbrev pub layered_plan : Network → List (List Change) → ℕ → List (List Change) → Plan
+layered_plan net rounds layers tried = record { rounds = rounds; evidence = TwoPhase (layered_evidence net layers tried) }
+
 -- the two-phase plan, with the rounds that were tried before
 abbrev pub two_phase_plan : Network → List (List Rule) → List (List Rule) → List (List Change) → Plan
-two_phase_plan net old new tried = record { rounds = two_phase_rounds net old new; evidence = TwoPhase (two_phase_evidence net new tried) }
-
--- a two-phase plan of these rounds, which lays its ingress rules in so many layers, by rank or by depth: the first label table is in
--- force from round 1, the second from the round of the exchange
-abbrev pub layered_plan : Network → List (List Change) → ℕ → List (List Change) → Plan
-layered_plan net rounds layers tried = record {
-  rounds = rounds;
-  evidence = TwoPhase (record { labels = label_tables net; picks = record { round = 1; labels = 0 } ∷ record { round = layers + 2; labels = 1 } ∷ []; tried = tried });
-}
+two_phase_plan net old new tried = layered_plan net (two_phase_rounds net old new) (length (ranks net new)) tried
 
 -- there are too few tags: more declared VLANs than available ones
 pub record AreTooFew (net : Network) (need has : ℕ) : Type 0 where
@@ -49,9 +45,13 @@ IsTwoCause net old new (TooFewTags need has) = AreTooFew net need has
 IsTwoCause net old new (TooSmall s need capacity) = IsFirstTooSmall net old new s need capacity
 IsTwoCause net old new Memory = Unit {0}
 
--- the plan is certified for all demands under which both configurations have good paths for their own classes
-abbrev pub IsCertifiedTwoPhase : Network → List (List Rule) → List (List Rule) → Plan → Type 0
-IsCertifiedTwoPhase net old new plan =
+-- a plan of these rounds is certified for all demands under which both configurations have good paths for their own classes
+abbrev pub IsCertifiedWith : Network → List (List Rule) → List (List Rule) → List (List Change) → Plan → Type 0
+IsCertifiedWith net old new rounds plan =
     (demands : List DemandView)
     → HasGoodPaths net old demands (classes_before net old new demands) → HasGoodPaths net new demands (classes_before net old new demands)
-    → IsCertified (two_phase_task net old new demands) plan.evidence
+    → IsCertified (task_by net old new rounds demands) plan.evidence
+
+-- so is the two-phase plan
+abbrev pub IsCertifiedTwoPhase : Network → List (List Rule) → List (List Rule) → Plan → Type 0
+IsCertifiedTwoPhase net old new plan = IsCertifiedWith net old new (two_phase_rounds net old new) plan

@@ -1,5 +1,5 @@
 -- The rules of each switch by band and in key order, and the changes that lay them or take them away.
-use Rattle.std.specs.Prelude.{◌≡◌, ◌==◌, ℕ, List, map, filter}
+use Rattle.std.specs.Prelude.{◌≡◌, List, map}
 use Rattle.net_base.specs.declared.ids.SwitchId.{SwitchId}
 use Rattle.topology.specs.Networks.{Network}
 use Rattle.flow_rules.specs.Tables.{IsTable}
@@ -7,7 +7,7 @@ use Rattle.flow_rules.specs.declared.rules.Rule.{Rule}
 use Rattle.update_model.specs.declared.Change.{Change}
 use Rattle.update_model.specs.declared.Change.TheVariants.{Insert, Delete}
 use Rattle.tag_allocator.specs.Tags.{Tagged, tags_of}
-use Rattle.two_phase.specs.TwoPhasePlan.{tagged_rules_by, ingress_rules_by, by_switch, in_key_order, switches}
+use Rattle.two_phase.specs.TwoPhasePlan.{tagged_rules_by, ingress_rules_by, in_key_order, switches}
 use Rattle.two_phase.specs.declared.bands.Band.{Band}
 use Rattle.two_phase.specs.declared.bands.Band.TheVariants as band
 use Rattle.two_phase.specs.declared.switch_rules.Step.{Step}
@@ -31,7 +31,3 @@ pub record AreOrdered (net : Network) (rules : SwitchId → List Rule) (lists : 
 abbrev pub change_by : Step → SwitchId → Rule → Change
 change_by Lay = Insert
 change_by Take = Delete
-
--- a change of each rule of one priority, by switch and then in key order
-abbrev pub by_rank : Network → (SwitchId → Rule → Change) → (SwitchId → List Rule) → ℕ → List Change
-by_rank net change rules rank = by_switch net change (λ s. filter (λ r. r.key.priority == rank) (rules s))

@@ -139,18 +139,22 @@ by_switch net change rules = flat_map (λ s. map (change s) (in_key_order (rules
 abbrev pub ranks : Network → List (List Rule) → List ℕ
 ranks net new = ascending_numbers (32768 ∷ flat_map (λ s. map (λ r. r.key.priority) (ingress_rules net s (rules_at new s))) (switches net))
 
--- the ingress rules of one rank
-abbrev pub of_rank : Network → List (List Rule) → ℕ → SwitchId → List Rule
-of_rank net new rank s = filter (λ r. r.key.priority == rank) (ingress_rules net s (rules_at new s))
+-- the ingress rules with a mark
+abbrev pub of_mark : Network → List (List Rule) → (SwitchId → Rule → ℕ) → ℕ → SwitchId → List Rule
+of_mark net new mark k s = filter (λ r. mark s r == k) (ingress_rules net s (rules_at new s))
 
--- the rounds of the two-phase plan
-abbrev pub two_phase_rounds : Network → List (List Rule) → List (List Rule) → List (List Change)
-two_phase_rounds net old new =
+-- the rounds of a two-phase plan that inserts the ingress rules mark by mark in the one order, and deletes them mark by mark in the other
+abbrev pub layered_rounds : Network → List (List Rule) → List (List Rule) → (SwitchId → Rule → ℕ) → List ℕ → List ℕ → List (List Change)
+layered_rounds net old new mark laid taken =
     (by_switch net Insert (λ s. tagged_rules net s (rules_at new s)) ∷ [])
-    ++ map (λ rank. by_switch net Insert (of_rank net new rank)) (reverse (ranks net new))
+    ++ map (λ k. by_switch net Insert (of_mark net new mark k)) laid
     ++ (filter (λ c. not (is_insert c)) (remaining_changes old new) ∷ filter is_insert (remaining_changes old new) ∷ [])
-    ++ map (λ rank. by_switch net Delete (of_rank net new rank)) (ranks net new)
+    ++ map (λ k. by_switch net Delete (of_mark net new mark k)) taken
     ++ (by_switch net Delete (λ s. tagged_rules net s (rules_at new s)) ∷ [])
+
+-- the rounds of the two-phase plan: the ingress rules come by descending rank and go by ascending rank
+abbrev pub two_phase_rounds : Network → List (List Rule) → List (List Rule) → List (List Change)
+two_phase_rounds net old new = layered_rounds net old new (λ s r. r.key.priority) (reverse (ranks net new)) (ranks net new)
 
 -- the label of a VLAN
 abbrev pub label : Vlan → Bool → Vlan → Label
@@ -179,9 +183,9 @@ label_table net version = labels_in_order (flat_map (λ v. label v.user version 
 abbrev pub label_tables : Network → List (List Label)
 label_tables net = label_table net false ∷ label_table net true ∷ []
 
--- the first table is in force from round 1, the second from the round of the exchange
-abbrev pub label_picks : Network → List (List Rule) → List LabelPick
-label_picks net new = record { round = 1; labels = 0 } ∷ record { round = length (ranks net new) + 2; labels = 1 } ∷ []
+-- where the ingress rules have so many layers, the first table is in force from round 1, the second from the round of the exchange
+abbrev pub label_picks : ℕ → List LabelPick
+label_picks layers = record { round = 1; labels = 0 } ∷ record { round = layers + 2; labels = 1 } ∷ []
 
 -- each declared VLAN with some tag, for counts, which don't depend on the tags
 abbrev pub counted_tags : Network → List Tagged

@@ -17,12 +17,12 @@ pub(crate) fn put_in_key_order(rules: &mut Vec<Rule>)
 
 /// The rules of one priority among rules in key order, where they stand together. It takes time by the logarithm of the
 /// number of rules.
-pub(crate) fn of_priority(rules: &[Rule], priority: u16) -> &[Rule]
+pub(crate) fn of_priority(rules: &[Rule], priority: usize) -> &[Rule]
     ensures { (all : List Rule) → IsTable all → rules.now ≡ in_key_order all → result.now
         ≡ in_key_order (filter (λ r. r.key.priority == priority) all) }
 {
-    let end = rules.partition_point(|rule| priority <= rule.key.priority);
+    let end = rules.partition_point(|rule| priority <= usize::from(rule.key.priority));
     let from = &rules[..end];
-    let start = from.partition_point(|rule| priority < rule.key.priority);
+    let start = from.partition_point(|rule| priority < usize::from(rule.key.priority));
     &from[start..]
 }

@@ -1,50 +1,24 @@
 //! The two-phase plan by depth, or why there is none.
-//!
-//! As in the plan by rank, the rounds are made by a function of their own, and the one that owns the tags lends them.
-ghost use Rattle.std.specs.Prelude.{◌≡◌, IfOk, IfErr, List, map};
+ghost use Rattle.std.specs.Prelude.{◌≡◌, IfOk, IfErr, List};
 ghost use Rattle.flow_rules.specs.Tables.{rules_of_all};
 ghost use Rattle.path_walk.specs.UserConfigs.{IsUserConfig};
 ghost use Rattle.demands.specs.Duties.{DemandView};
 ghost use Rattle.certificates.specs.Valid.{IsValidPlan};
 ghost use Rattle.certificates.specs.Certified.{classes_for};
-ghost use Rattle.tag_allocator.specs.Tags.{tags_of};
 ghost use Rattle.table_difference.specs.Tried.{AreTried};
 ghost use Rattle.table_difference.specs.SameClasses.{HasSameClasses, classes_before};
 ghost use Rattle.two_phase.specs.Laws.{FitsTwoPhase};
 ghost use Rattle.two_phase.specs.Plans.{IsTwoCause};
 ghost use Rattle.two_phase.specs.Depths.{depth_plan, depth_task, IsCertifiedByDepth};
 
-use crate::depth_rounds::make_depth_rounds;
-use crate::planning::{TwoFault, plan_of_rounds, tags_in_room};
+use crate::layers::Layering;
+use crate::planning::{TwoFault, make_plan};
 use certificates::Plan;
 use flow_rules::Config;
 use std::alloc::Global;
 use table_difference::classes::rounds_make_no_classes;
-use tag_allocator::TagMap;
 use topology::Net;
 use update_model::Rounds;
-
-/// The plan with the tags of the declared VLANs.
-fn make_depth_plan(
-    alloc: Global,
-    net: &Net,
-    old: &Config,
-    new: &Config,
-    tags: &TagMap,
-    tried: &Rounds,
-) -> Result<Plan, TwoFault>
-    requires old { IsUserConfig net.now (rules_of_all old.now) }
-    requires new { IsUserConfig net.now (rules_of_all new.now) }
-    requires tags { tags.now ≡ map (λ t. t.tag) (tags_of net.now) }
-    requires fits { FitsTwoPhase net.now (rules_of_all old.now) (rules_of_all new.now) }
-    ensures plan { IfOk result
-        (λ p. p ≡ depth_plan net.now (rules_of_all old.now) (rules_of_all new.now) tried.now) }
-    ensures cause { IfErr result
-        (IsTwoCause net.now (rules_of_all old.now) (rules_of_all new.now)) }
-{
-    let (rounds, depths) = make_depth_rounds(alloc, net, old, new, tags)?;
-    Ok(plan_of_rounds(alloc, net, tags, rounds, depths, tried)?)
-}
 
 /// The two-phase plan by depth, with the rounds that were tried before copied into its evidence: that of `two_phase` with
 /// depths in place of ranks. Of two ingress rules of a switch one is above the other where some packet is covered by both and
@@ -79,10 +53,6 @@ pub fn two_phase_by_depth(
     ensures cause { IfErr result
         (IsTwoCause net.now (rules_of_all old.now) (rules_of_all new.now)) }
 {
-    net.keeps_rules();
     rounds_make_no_classes(net, old, new);
-    let tags = tags_in_room(alloc, net, old, new)?;
-    let plan = make_depth_plan(alloc, net, old, new, &tags, tried);
-    drop(tags);
-    plan
+    make_plan(alloc, net, old, new, tried, Layering::ByDepth)
 }

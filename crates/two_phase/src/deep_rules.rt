@@ -6,10 +6,10 @@ ghost use Rattle.topology.specs.Networks.{switch_count};
 ghost use Rattle.flow_rules.specs.Overlaps.{patterns_meet};
 ghost use Rattle.flow_rules.specs.Tables.{IsTable, rules_at};
 ghost use Rattle.flow_rules.specs.declared.rules.Rule.{Rule};
-ghost use Rattle.two_phase.specs.TwoPhasePlan.{in_key_order};
+ghost use Rattle.two_phase.specs.TwoPhasePlan.{by_switch, in_key_order};
 ghost use Rattle.two_phase.specs.SwitchRules.{AreOrdered, change_by};
-ghost use Rattle.two_phase.specs.Depths.{is_above, greatest};
-ghost use Rattle.two_phase.specs.DeepRules.{AreDeep, deep_rules, by_depth};
+ghost use Rattle.two_phase.specs.Depths.{is_above, greatest, depth_of};
+ghost use Rattle.two_phase.specs.DeepRules.{AreDeep, deep_rules};
 
 use crate::switch_rules::{Step, SwitchRules, change};
 use flow_rules::{Key, Pattern, Rule};
@@ -171,7 +171,10 @@ impl DeepRules {
     ) -> Result<Vec<Change>, Memory>
         requires { length self.now ≡ switch_count net.now }
         ensures { (rules : SwitchId → List Rule) → AreDeep net.now rules self.now
-            → IfOk result (λ v. v.items ≡ by_depth net.now (change_by step) rules depth) }
+            → IfOk result
+            (λ v. v.items
+            ≡ by_switch net.now (change_by step)
+            (λ s. filter (λ r. depth_of (rules s) r == depth) (rules s))) }
     {
         let mut round = Vec::new(alloc);
         for number in 0..net.switches() {

@@ -1,7 +1,7 @@
 //! The label tables of the two-phase plan, and their picks.
-ghost use Rattle.std.specs.Prelude.{◌≡◌, ◌≤◌, ◌+◌, ◌++◌, ◌∷◌, [], IfOk, OnOk, flat_map, length, map, true};
+ghost use Rattle.std.specs.Prelude.{◌≡◌, ◌≤◌, ◌++◌, ◌∷◌, [], IfOk, OnOk, flat_map, length, map, true};
 ghost use Rattle.tag_allocator.specs.Tags.{tags_of, available_tags};
-ghost use Rattle.two_phase.specs.TwoPhasePlan.{label, label_table, label_tables, vlan_number};
+ghost use Rattle.two_phase.specs.TwoPhasePlan.{label, label_picks, label_table, label_tables, vlan_number};
 ghost use Rattle.net_base.specs.declared.ids.Vlan.TheVariants as vlan;
 
 use certificates::{Label, LabelPick, LabelPicks, LabelTables, Labels};
@@ -113,12 +113,10 @@ pub(crate) fn make_label_tables(
 }
 
 /// The picks of the label tables: the first from round 1, the second from the round of the exchange, which comes after one
-/// round for the tagged rules and one for each rank.
-pub(crate) fn make_label_picks(alloc: Global, ranks: usize) -> Result<LabelPicks, Memory>
-    requires { ranks ≤ 2049 }
-    ensures { IfOk result
-        (λ picks. picks
-        ≡ record { round = 1; labels = 0 } ∷ record { round = ranks + 2; labels = 1 } ∷ []) }
+/// round for the tagged rules and one for each layer of ingress rules.
+pub(crate) fn make_label_picks(alloc: Global, layers: usize) -> Result<LabelPicks, Memory>
+    requires { layers ≤ 2049 }
+    ensures { IfOk result (λ picks. picks ≡ label_picks layers) }
 {
     let mut picks = LabelPicks::make(alloc)?;
     picks.add(LabelPick {
@@ -126,7 +124,7 @@ pub(crate) fn make_label_picks(alloc: Global, ranks: usize) -> Result<LabelPicks
         labels: 0,
     })?;
     picks.add(LabelPick {
-        round: ranks as u32 + 2,
+        round: layers as u32 + 2,
         labels: 1,
     })?;
     Ok(picks)

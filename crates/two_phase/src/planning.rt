@@ -1,23 +1,25 @@
 //! The two-phase plan, or why there is none.
 //!
 //! What a function owns is let go at each of its ends, which makes its proof long. So each part of the plan is made by a
-//! function of its own, and the one that owns the tags lends them to the one that makes the plan.
-ghost use Rattle.std.specs.Prelude.{◌≡◌, ◌≤◌, ◌+◌, ◌∷◌, [], IfOk, IfErr, OnOk, map, length};
+//! function of its own.
+ghost use Rattle.std.specs.Prelude.{◌≡◌, ◌≤◌, IfOk, IfErr, OnOk, map, length};
 ghost use Rattle.flow_rules.specs.Tables.{rules_of_all};
 ghost use Rattle.path_walk.specs.UserConfigs.{IsUserConfig};
 ghost use Rattle.certificates.specs.Valid.{IsValidPlan};
 ghost use Rattle.two_phase.specs.Laws.{FitsTwoPhase, two_phase_task};
 ghost use Rattle.table_difference.specs.Tried.{AreTried};
-ghost use Rattle.two_phase.specs.Plans.{layered_plan, two_phase_plan, IsTwoCause, IsCertifiedTwoPhase};
+ghost use Rattle.two_phase.specs.Plans.{layered_plan, two_phase_plan, IsTwoCause, IsCertifiedWith, IsCertifiedTwoPhase};
 ghost use Rattle.table_difference.specs.SameClasses.{HasSameClasses, classes_before};
 ghost use Rattle.certificates.specs.Certified.{classes_for};
 ghost use Rattle.demands.specs.Duties.{DemandView};
 ghost use Rattle.std.specs.Prelude.{List};
 ghost use Rattle.flow_rules.specs.declared.rules.Rule.{Rule};
 ghost use Rattle.tag_allocator.specs.Tags.{tags_of, available_tags};
-ghost use Rattle.two_phase.specs.TwoPhasePlan.{label_tables};
+ghost use Rattle.two_phase.specs.TwoPhasePlan.{label_picks, label_tables};
+ghost use Rattle.two_phase.specs.Layers.{layer_count, rounds_by};
 
 use crate::labels::{make_label_picks, make_label_tables};
+use crate::layers::Layering;
 use crate::needs::need;
 use crate::rounds::make_rounds;
 use certificates::{Evidence, Plan, TwoPhaseEvidence};
@@ -98,12 +100,7 @@ fn check_room(net: &Net, old: &Config, new: &Config) -> Result<(), TwoFault>
 }
 
 /// The tags of the declared VLANs, where there is room for the plan.
-pub(crate) fn tags_in_room(
-    alloc: Global,
-    net: &Net,
-    old: &Config,
-    new: &Config,
-) -> Result<TagMap, TwoFault>
+fn tags_in_room(alloc: Global, net: &Net, old: &Config, new: &Config) -> Result<TagMap, TwoFault>
     requires old { IsUserConfig net.now (rules_of_all old.now) }
     requires new { IsUserConfig net.now (rules_of_all new.now) }
     ensures tags { IfOk result (λ tags. tags ≡ map (λ t. t.tag) (tags_of net.now)) }
@@ -146,8 +143,7 @@ fn make_evidence(
     requires few { layers ≤ 2049 }
     ensures labels { IfOk result (λ e. e.labels ≡ label_tables net.now) }
     ensures picks { IfOk result
-        (λ e. e.picks
-        ≡ record { round = 1; labels = 0 } ∷ record { round = layers + 2; labels = 1 } ∷ []) }
+        (λ e. e.picks ≡ label_picks layers) }
     ensures tried { IfOk result (λ e. e.tried ≡ tried.now) }
 {
     let labels = make_label_tables(alloc, net, tags)?;
@@ -160,7 +156,7 @@ fn make_evidence(
 }
 
 /// The plan of these rounds, with so many layers of ingress rules, ranks or depths, and the tags of the declared VLANs.
-pub(crate) fn plan_of_rounds(
+fn plan_of_rounds(
     alloc: Global,
     net: &Net,
     tags: &TagMap,
@@ -185,26 +181,36 @@ pub(crate) fn plan_of_rounds(
     }
 }
 
-/// The plan with the tags of the declared VLANs.
-fn make_plan(
+/// The plan with these layers, or why there is none.
+pub(crate) fn make_plan(
     alloc: Global,
     net: &Net,
     old: &Config,
     new: &Config,
-    tags: &TagMap,
     tried: &Rounds,
+    layering: Layering,
 ) -> Result<Plan, TwoFault>
     requires old { IsUserConfig net.now (rules_of_all old.now) }
     requires new { IsUserConfig net.now (rules_of_all new.now) }
-    requires tags { tags.now ≡ map (λ t. t.tag) (tags_of net.now) }
-    requires fits { FitsTwoPhase net.now (rules_of_all old.now) (rules_of_all new.now) }
+    requires tried { AreTried net.now tried.now }
     ensures plan { IfOk result
-        (λ p. p ≡ two_phase_plan net.now (rules_of_all old.now) (rules_of_all new.now) tried.now) }
+        (λ p. p ≡ layered_plan net.now
+        (rounds_by layering net.now (rules_of_all old.now) (rules_of_all new.now))
+        (layer_count layering net.now (rules_of_all new.now)) tried.now) }
+    ensures fits { IfOk result
+        (λ _. FitsTwoPhase net.now (rules_of_all old.now) (rules_of_all new.now)) }
+    ensures valid { IfOk result (IsValidPlan net.now) }
+    ensures certified { IfOk result
+        (IsCertifiedWith net.now (rules_of_all old.now) (rules_of_all new.now)
+        (rounds_by layering net.now (rules_of_all old.now) (rules_of_all new.now))) }
     ensures cause { IfErr result
         (IsTwoCause net.now (rules_of_all old.now) (rules_of_all new.now)) }
 {
-    let (rounds, ranks) = make_rounds(alloc, net, old, new, tags)?;
-    Ok(plan_of_rounds(alloc, net, tags, rounds, ranks, tried)?)
+    net.keeps_rules();
+    rounds_make_no_classes(net, old, new);
+    let tags = tags_in_room(alloc, net, old, new)?;
+    let (rounds, layers) = make_rounds(alloc, net, old, new, &tags, layering)?;
+    Ok(plan_of_rounds(alloc, net, &tags, rounds, layers, tried)?)
 }
 
 /// The versioned two-phase plan of an update (Reitblatt and others, 2012), with the rounds that were tried before copied
@@ -239,10 +245,6 @@ pub fn two_phase(
     ensures cause { IfErr result
         (IsTwoCause net.now (rules_of_all old.now) (rules_of_all new.now)) }
 {
-    net.keeps_rules();
     rounds_make_no_classes(net, old, new);
-    let tags = tags_in_room(alloc, net, old, new)?;
-    let plan = make_plan(alloc, net, old, new, &tags, tried);
-    drop(tags);
-    plan
+    make_plan(alloc, net, old, new, tried, Layering::ByRank)
 }

@@ -1,5 +1,5 @@
 //! The bands of all switches in key order, and the ranks.
-ghost use Rattle.std.specs.Prelude.{◌≡◌, ◌<◌, ◌≤◌, ◌∷◌, IfOk, length, map, flat_map};
+ghost use Rattle.std.specs.Prelude.{◌≡◌, ◌<◌, ◌≤◌, ◌∷◌, IfOk, length, map, flat_map, reverse};
 ghost use Rattle.topology.specs.Networks.{switch_count};
 ghost use Rattle.flow_rules.specs.Tables.{rules_of_all, rules_at};
 ghost use Rattle.path_walk.specs.UserConfigs.{IsUserConfig};
@@ -65,15 +65,16 @@ pub(crate) fn make_band(
     Ok(all)
 }
 
-/// The ranks: the priorities of ingress rules, that of the defaults in any case, ascending and each once.
-pub(crate) fn ranks_of(ingress: &SwitchRules) -> Result<Vec<u16>, Memory>
+/// The ranks: the priorities of ingress rules, that of the defaults in any case, descending and each once.
+pub(crate) fn ranks_of(ingress: &SwitchRules) -> Result<Vec<usize>, Memory>
     ensures { IfOk result
         (λ v. v.items
-        ≡ ascending_numbers (32768
-        ∷ flat_map (λ rules. map (λ r. r.key.priority) rules) ingress.now)) }
+        ≡ reverse (ascending_numbers (32768
+        ∷ flat_map (λ rules. map (λ r. r.key.priority) rules) ingress.now))) }
 {
     let mut ranks = ingress.priorities(INGRESS_BASE)?;
     ranks.sort_unstable();
     ranks.dedup();
+    ranks.reverse();
     Ok(ranks)
 }

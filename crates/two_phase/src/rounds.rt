@@ -1,6 +1,6 @@
 //! The rounds of the two-phase plan.
 //!
-//! What a function owns is let go at each of its ends, which makes its proof long. So the rules of both bands, the ranks and the
+//! What a function owns is let go at each of its ends, which makes its proof long. So the rules of both bands, the layers and the
 //! rounds are owned by a function each, which lends them to the next one.
 ghost use Rattle.std.specs.Prelude.{◌≡◌, ◌<◌, ◌≤◌, ◌^◌, ◌++◌, ◌∷◌, [], List, not, IfOk, OnOk, length, map, reverse, filter};
 ghost use Rattle.net_base.specs.declared.ids.SwitchId.{SwitchId};
@@ -13,11 +13,13 @@ ghost use Rattle.update_model.specs.Remaining.{remaining_changes};
 ghost use Rattle.update_model.specs.declared.Change.TheVariants.{Insert, Delete};
 ghost use Rattle.tag_allocator.specs.Tags.{tags_of, available_tags};
 ghost use Rattle.two_phase.specs.Laws.{FitsTwoPhase};
-ghost use Rattle.two_phase.specs.SwitchRules.{AreOrdered, change_by, by_rank};
-ghost use Rattle.two_phase.specs.TwoPhasePlan.{by_switch, ingress_rules, tagged_rules, two_phase_rounds, ranks};
+ghost use Rattle.two_phase.specs.SwitchRules.{AreOrdered, change_by};
+ghost use Rattle.two_phase.specs.TwoPhasePlan.{by_switch, ingress_rules, tagged_rules};
+ghost use Rattle.two_phase.specs.Layers.{AreLayered, by_layer, laying_order, layer_count, layering_of, list_count, rounds_by};
 
 use crate::bands::Band;
-use crate::ranks::{make_band, ranks_of};
+use crate::layers::{Layering, Layers, make_layers};
+use crate::ranks::make_band;
 use crate::switch_rules::{Step, SwitchRules};
 use crate::vlan_tags::vlan_tags;
 use flow_rules::Config;
@@ -28,36 +30,37 @@ use tag_allocator::TagMap;
 use topology::Net;
 use update_model::{Change, Rounds};
 
-/// The rules of both bands at all switches, in key order.
+/// The rules of both bands at all switches: the tagged ones in key order, and the ingress rules in layers.
 #[derive(Clone, Copy)]
 struct Bands<'a> {
     tagged: &'a SwitchRules,
-    ingress: &'a SwitchRules,
+    ingress: &'a Layers,
 }
 
 /// The numbers in the opposite order.
-fn reversed(alloc: Global, numbers: &[u16]) -> Result<Vec<u16>, Memory>
+fn reversed(alloc: Global, numbers: &[usize]) -> Result<Vec<usize>, Memory>
     ensures { IfOk result (λ v. v.items ≡ reverse numbers.now) }
 {
     Ok(numbers.iter().rev().copied().collect(alloc)?)
 }
 
-/// Adds a round for each rank, in the order of the list.
-fn add_rank_rounds(
+/// Adds a round for each layer, in the order of the list.
+fn add_layers(
     alloc: Global,
     rounds: &mut Rounds,
     net: &Net,
     step: Step,
-    ingress: &SwitchRules,
-    ranks: &[u16],
+    ingress: &Layers,
+    layers: &[usize],
 ) -> Result<(), Memory>
-    requires { length ingress.now ≡ switch_count net.now }
-    ensures { (rules : SwitchId → List Rule) → AreOrdered net.now rules ingress.now
+    requires { list_count ingress.now ≡ switch_count net.now }
+    ensures { (rules : SwitchId → List Rule) → AreLayered net.now rules ingress.now
         → OnOk result
-        (rounds.new ≡ rounds.old ++ map (by_rank net.now (change_by step) rules) ranks.now) }
+        (rounds.new ≡ rounds.old
+        ++ map (by_layer net.now (change_by step) (layering_of ingress.now) rules) layers.now) }
 {
-    for rank in ranks {
-        rounds.push_round(ingress.round_of(alloc, net, step, *rank)?)?;
+    for layer in layers {
+        rounds.push_round(ingress.round(alloc, net, step, *layer)?)?;
     }
     Ok(())
 }
@@ -90,7 +93,7 @@ fn add_halves(alloc: Global, rounds: &mut Rounds, changes: &[Change]) -> Result<
 }
 
 /// Adds the two rounds of the exchange: first what deletes and replaces old rules, and then what inserts new ones.
-pub(crate) fn add_exchange(
+fn add_exchange(
     alloc: Global,
     rounds: &mut Rounds,
     old: &Config,
@@ -109,7 +112,7 @@ pub(crate) fn add_exchange(
 }
 
 /// Adds the round of all rules.
-pub(crate) fn add_round(
+fn add_round(
     alloc: Global,
     rounds: &mut Rounds,
     net: &Net,
@@ -124,77 +127,81 @@ pub(crate) fn add_round(
     Ok(())
 }
 
-/// Adds the rounds that lay the tagged rules, and then the ingress rules by descending rank.
+/// Adds the rounds that lay the tagged rules, and then the ingress rules in the order of the layers.
 fn add_laying(
     alloc: Global,
     rounds: &mut Rounds,
     net: &Net,
     bands: &Bands,
-    ranks: &[u16],
+    layers: &[usize],
 ) -> Result<(), Memory>
     requires tagged { length bands.now.tagged.now ≡ switch_count net.now }
-    requires ingress { length bands.now.ingress.now ≡ switch_count net.now }
+    requires ingress { list_count bands.now.ingress.now ≡ switch_count net.now }
     ensures { (first rest : SwitchId → List Rule) → AreOrdered net.now first bands.now.tagged.now
-        → AreOrdered net.now rest bands.now.ingress.now
+        → AreLayered net.now rest bands.now.ingress.now
         → OnOk result
         (rounds.new ≡ rounds.old ++ (by_switch net.now Insert first ∷ [])
-        ++ map (by_rank net.now Insert rest) (reverse ranks.now)) }
+        ++ map (by_layer net.now Insert (layering_of bands.now.ingress.now) rest) layers.now) }
 {
     add_round(alloc, rounds, net, Step::Lay, bands.tagged)?;
-    let falling = reversed(alloc, ranks)?;
-    let added = add_rank_rounds(alloc, rounds, net, Step::Lay, bands.ingress, &falling);
-    drop(falling);
-    added
+    add_layers(alloc, rounds, net, Step::Lay, bands.ingress, layers)
 }
 
-/// Adds the rounds that take the ingress rules away by ascending rank, and then the tagged rules.
+/// Adds the rounds that take the ingress rules away in the opposite order of the layers, and then the tagged rules.
 fn add_taking(
     alloc: Global,
     rounds: &mut Rounds,
     net: &Net,
     bands: &Bands,
-    ranks: &[u16],
+    layers: &[usize],
 ) -> Result<(), Memory>
     requires tagged { length bands.now.tagged.now ≡ switch_count net.now }
-    requires ingress { length bands.now.ingress.now ≡ switch_count net.now }
+    requires ingress { list_count bands.now.ingress.now ≡ switch_count net.now }
     ensures { (first rest : SwitchId → List Rule) → AreOrdered net.now first bands.now.tagged.now
-        → AreOrdered net.now rest bands.now.ingress.now
+        → AreLayered net.now rest bands.now.ingress.now
         → OnOk result
-        (rounds.new ≡ rounds.old ++ map (by_rank net.now Delete rest) ranks.now
+        (rounds.new ≡ rounds.old
+        ++ map (by_layer net.now Delete (layering_of bands.now.ingress.now) rest)
+        (reverse layers.now)
         ++ (by_switch net.now Delete first ∷ [])) }
 {
-    add_rank_rounds(alloc, rounds, net, Step::Take, bands.ingress, ranks)?;
+    let back = reversed(alloc, layers)?;
+    let added = add_layers(alloc, rounds, net, Step::Take, bands.ingress, &back);
+    drop(back);
+    added?;
     add_round(alloc, rounds, net, Step::Take, bands.tagged)
 }
 
-/// The rounds of the plan, from its rules in key order and its ranks.
-fn rounds_from_ranks(
+/// The rounds of the plan, from the rules of both bands and the layers in the order in which they are laid.
+fn rounds_in_order(
     alloc: Global,
     net: &Net,
     old: &Config,
     new: &Config,
     bands: &Bands,
-    rising: &[u16],
+    layers: &[usize],
 ) -> Result<Rounds, Memory>
     requires few { length old.now < 2 ^ 32 }
     requires tagged_count { length bands.now.tagged.now ≡ switch_count net.now }
-    requires ingress_count { length bands.now.ingress.now ≡ switch_count net.now }
+    requires ingress_count { list_count bands.now.ingress.now ≡ switch_count net.now }
     requires tagged { AreOrdered net.now
         (λ s. tagged_rules net.now s (rules_at (rules_of_all new.now) s)) bands.now.tagged.now }
-    requires ingress { AreOrdered net.now
+    requires ingress { AreLayered net.now
         (λ s. ingress_rules net.now s (rules_at (rules_of_all new.now) s)) bands.now.ingress.now }
-    requires ranks { rising.now ≡ ranks net.now (rules_of_all new.now) }
+    requires layers { layers.now
+        ≡ laying_order (layering_of bands.now.ingress.now) net.now (rules_of_all new.now) }
     ensures { IfOk result
-        (λ r. r ≡ two_phase_rounds net.now (rules_of_all old.now) (rules_of_all new.now)) }
+        (λ r. r ≡ rounds_by (layering_of bands.now.ingress.now) net.now
+        (rules_of_all old.now) (rules_of_all new.now)) }
 {
     let mut rounds = Rounds::make(alloc)?;
-    add_laying(alloc, &mut rounds, net, bands, rising)?;
+    add_laying(alloc, &mut rounds, net, bands, layers)?;
     add_exchange(alloc, &mut rounds, old, new)?;
-    add_taking(alloc, &mut rounds, net, bands, rising)?;
+    add_taking(alloc, &mut rounds, net, bands, layers)?;
     Ok(rounds)
 }
 
-/// The rounds of the plan, and the number of its ranks, from its rules in key order.
+/// The rounds of the plan, and the number of its layers, from the rules of both bands.
 fn rounds_from_bands(
     alloc: Global,
     net: &Net,
@@ -204,42 +211,47 @@ fn rounds_from_bands(
 ) -> Result<(Rounds, usize), Memory>
     requires few { length old.now < 2 ^ 32 }
     requires tagged_count { length bands.now.tagged.now ≡ switch_count net.now }
-    requires ingress_count { length bands.now.ingress.now ≡ switch_count net.now }
+    requires ingress_count { list_count bands.now.ingress.now ≡ switch_count net.now }
     requires tagged { AreOrdered net.now
         (λ s. tagged_rules net.now s (rules_at (rules_of_all new.now) s)) bands.now.tagged.now }
-    requires ingress { AreOrdered net.now
+    requires ingress { AreLayered net.now
         (λ s. ingress_rules net.now s (rules_at (rules_of_all new.now) s)) bands.now.ingress.now }
     ensures rounds { IfOk result
-        (λ r. r.0 ≡ two_phase_rounds net.now (rules_of_all old.now) (rules_of_all new.now)) }
-    ensures ranks { IfOk result (λ r. r.1 ≡ length (ranks net.now (rules_of_all new.now))) }
+        (λ r. r.0 ≡ rounds_by (layering_of bands.now.ingress.now) net.now
+        (rules_of_all old.now) (rules_of_all new.now)) }
+    ensures layers { IfOk result
+        (λ r. r.1
+        ≡ layer_count (layering_of bands.now.ingress.now) net.now (rules_of_all new.now)) }
 {
-    let rising = ranks_of(bands.ingress)?;
-    let count = rising.len();
-    let rounds = rounds_from_ranks(alloc, net, old, new, bands, &rising);
-    drop(rising);
+    let layers = bands.ingress.laying_order(alloc)?;
+    let count = layers.len();
+    let rounds = rounds_in_order(alloc, net, old, new, bands, &layers);
+    drop(layers);
     Ok((rounds?, count))
 }
 
-/// The rounds of the plan, and the number of its ranks.
+/// The rounds of the plan, and the number of its layers.
 pub(crate) fn make_rounds(
     alloc: Global,
     net: &Net,
     old: &Config,
     new: &Config,
     tags: &TagMap,
+    layering: Layering,
 ) -> Result<(Rounds, usize), Memory>
     requires old { IsUserConfig net.now (rules_of_all old.now) }
     requires new { IsUserConfig net.now (rules_of_all new.now) }
     requires tags { tags.now ≡ map (λ t. t.tag) (tags_of net.now) }
     requires fits { FitsTwoPhase net.now (rules_of_all old.now) (rules_of_all new.now) }
     ensures rounds { IfOk result
-        (λ r. r.0 ≡ two_phase_rounds net.now (rules_of_all old.now) (rules_of_all new.now)) }
-    ensures ranks { IfOk result (λ r. r.1 ≡ length (ranks net.now (rules_of_all new.now))) }
+        (λ r. r.0 ≡ rounds_by layering net.now (rules_of_all old.now) (rules_of_all new.now)) }
+    ensures layers { IfOk result
+        (λ r. r.1 ≡ layer_count layering net.now (rules_of_all new.now)) }
 {
     net.keeps_rules();
     let pairs = vlan_tags(alloc, net, tags)?;
     let tagged = make_band(alloc, net, &pairs, new, Band::Tagged)?;
-    let ingress = make_band(alloc, net, &pairs, new, Band::Ingress)?;
+    let ingress = make_layers(alloc, net, &pairs, new, layering)?;
     drop(pairs);
     let bands = Bands {
         tagged: &tagged,

@@ -64,12 +64,12 @@ impl SwitchRules {
     }
 
     /// All priorities of the rules, with repetitions, and one more before them.
-    pub(crate) fn priorities(&self, first: u16) -> Result<Vec<u16>, Memory>
+    pub(crate) fn priorities(&self, first: u16) -> Result<Vec<usize>, Memory>
         ensures { IfOk result
             (λ v. v.items ≡ first ∷ flat_map (λ rules. map (λ r. r.key.priority) rules) self.now) }
     {
         let mut priorities = Vec::new(*self.lists.allocator());
-        priorities.push(first)?;
+        priorities.push(usize::from(first))?;
         for rules in &self.lists {
             add_priorities(&mut priorities, rules)?;
         }
@@ -78,12 +78,12 @@ impl SwitchRules {
 }
 
 /// Adds the priorities of rules.
-fn add_priorities(priorities: &mut Vec<u16>, rules: &[Rule]) -> Result<(), Memory>
+fn add_priorities(priorities: &mut Vec<usize>, rules: &[Rule]) -> Result<(), Memory>
     ensures { OnOk result
         (priorities.new.items ≡ priorities.old.items ++ map (λ r. r.key.priority) rules.now) }
 {
     for rule in rules {
-        priorities.push(rule.key.priority)?;
+        priorities.push(usize::from(rule.key.priority))?;
     }
     Ok(())
 }
@@ -135,7 +135,7 @@ impl SwitchRules {
         alloc: Global,
         net: &Net,
         step: Step,
-        priority: u16,
+        priority: usize,
     ) -> Result<Vec<Change>, Memory>
         requires { length self.now ≡ switch_count net.now }
         ensures { (rules : SwitchId → List Rule) → AreOrdered net.now rules self.now

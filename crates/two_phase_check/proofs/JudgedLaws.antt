@@ -77,7 +77,7 @@ module _ (t : Task) (e : TwoPhaseEvidence) (k : ℕ) (in_range : k < length t.ro
     pub mixed_first : (mixed : MixedClass) → IsFirstMixed t k (classes_for t) labels mixed → IsFirstFrom t (TwoPhase e) (classes_start k) (MixedPath (suc k) mixed.class mixed.switch)
     mixed_first mixed is = record {
       position = 0;
-      holds = inr (mixed_path k mixed.class is.class labels mixed.switch (record { within = in_range; is = is.is_class }) in_force is.least.holds);
+      holds = inr (mixed_path k mixed.class is.is_mixed.class labels mixed.switch (record { within = in_range; is = is.is_mixed.is_class }) in_force is.is_mixed.least.holds);
       first = first_of_classes t (TwoPhase e) k (rank_of 0 (MixedPath (suc k) mixed.class mixed.switch)) refl refl none_earlier;
     }
       where
@@ -86,8 +86,8 @@ module _ (t : Task) (e : TwoPhaseEvidence) (k : ℕ) (in_range : k < length t.ro
         no_lesser n s other of_class here = (
           elim (cases_lt n mixed.class) [ inl less ↦ absurd (mixes_not t k other labels s (is.earlier n other less of_class) here) | inr more ↦ more ],
           λ same.
-              let one = is.only other (subst (λ m. IsClass (classes_for t) m other) same of_class) in
-              is.least.least s (subst (λ x. MixesAt t k x labels s) one here),
+              let one = is.is_mixed.only other (subst (λ m. IsClass (classes_for t) m other) same of_class) in
+              is.is_mixed.least.least s (subst (λ x. MixesAt t k x labels s) one here),
         )
 
         none_earlier : (i : ℕ) (r : Reason) → IsTwoPhaseReason t e i r → round_of r ≡ suc k → least_class_number ≤ number_of r → ¬ IsBefore (rank_of i r) (rank_of 0 (MixedPath (suc k) mixed.class mixed.switch))

@@ -5,6 +5,7 @@ ghost use Rattle.topology.specs.Networks.{Network, switch_count};
 ghost use Rattle.demands.specs.Good.{HasGoodPath, HasGoodPaths};
 ghost use Rattle.certificates.specs.TwoPhase.{tables_of};
 ghost use Rattle.certificates.specs.Certified.{classes_for};
+ghost use Rattle.dest_classes.specs.Classes.{class_count};
 ghost use Rattle.certificates.specs.declared.TwoPhaseEvidence.{TwoPhaseEvidence};
 ghost use Rattle.certificates.specs.declared.Evidence.TheVariants.{TwoPhase};
 ghost use Rattle.two_phase_check.specs.InForce.{LabelsStand};
@@ -12,13 +13,10 @@ ghost use Rattle.check_reasons.specs.Least.{IsLeastSwitch};
 ghost use Rattle.check_reasons.specs.Loaded.{AreLoaded};
 ghost use Rattle.check_reasons.specs.Ranks.{classes_start};
 ghost use Rattle.check_reasons.specs.Passed.{IsFirstFrom, ChangesPass, ClassesPass, RoundsPass};
-ghost use Rattle.check_reasons.specs.AtomMarks.{AreTouched};
-ghost use Rattle.check_reasons.specs.Touched.{touches};
-ghost use Rattle.update_model.specs.Changes.{round_after};
 ghost use Rattle.two_phase_check.specs.Agreements.{Tells, IsVersionKept, MixesBy, MixesAt, KeepsVersions};
 ghost use Rattle.two_phase_check.specs.Agreements as seen;
 ghost use Rattle.two_phase_check.specs.Kept.{AreKept, number_at};
-ghost use Rattle.two_phase_check.specs.Judged.{AllKeepVersions, IsFirstMixed, StandsUntouched, StandUntouched};
+ghost use Rattle.two_phase_check.specs.Judged.{AllKeepVersions, AreReady, IsFirstMixed, IsMixed, KeepsVersionsAt};
 
 use crate::keeping::{KeptPlace, MOST_KNOWN, Way, forget, keeps_way};
 use crate::labels::{LabelsInForce, agrees};
@@ -191,40 +189,38 @@ fn least_mixed(
     least
 }
 
-/// The least switch at which a class mixes the versions, where it does. Where the classes stand that the round doesn't
-/// touch, such a class isn't looked at again.
+/// The class with this number and the least switch where it mixes the versions, where it does. Where the classes stand that
+/// the round doesn't touch, such a class isn't looked at again.
 fn judge_class(
     round: &RoundCase,
-    class: Class,
-    touched: bool,
+    classes: &ClassMap,
+    number: u32,
     at_entry: &mut Outcomes,
     on_path: &mut Outcomes,
     known: &mut [Option<KeptPlace>],
-) -> Option<SwitchId>
-    requires entry { class.entry.switch.0 < switch_count round.now.task.update.net }
-    requires old_good { HasGoodPath round.now.task.update.net round.now.task.update.old
-        round.now.task.update.demands class.entry class.first }
-    requires new_good { HasGoodPath round.now.task.update.net round.now.task.update.new
-        round.now.task.update.demands class.entry class.first }
-    requires touched { touched
-        ≡ touches (round_after round.now.number round.now.task.rounds) class.first }
-    requires stands { round.now.stands ≡ true
-        → StandsUntouched round.now.task round.now.number class round.now.labels }
+) -> Option<MixedClass>
+    requires number { number < class_count classes.now }
+    requires classes { AreReady round.now classes.now }
     requires entry_room { 8192 < length at_entry.old.list + at_entry.old.spare }
     requires path_room { 8192 < length on_path.old.list + on_path.old.spare }
     requires known { AreKept round.now.task round.now.number known.old }
-    ensures none { IfNone result
-        (KeepsVersions round.now.task round.now.number class round.now.labels) }
+    ensures none { IfNone result (KeepsVersionsAt round.now classes.now number) }
     ensures some { IfSome result
-        (IsLeastSwitch (MixesAt round.now.task round.now.number class round.now.labels)) }
+        (IsMixed round.now.task round.now.number classes.now round.now.labels) }
+    ensures number { IfSome result (λ mixed. mixed.class ≡ number) }
     ensures entry_room { 8192 < length at_entry.new.list + at_entry.new.spare }
     ensures path_room { 8192 < length on_path.new.list + on_path.new.spare }
     ensures known { AreKept round.now.task round.now.number known.new }
 {
-    if round.stands && !touched {
+    round.keeps_network();
+    if round.stands && !round.is_touched(classes, number) {
         return None;
     }
-    least_mixed(round, class, at_entry, on_path, known)
+    let switch = least_mixed(round, classes.class(number), at_entry, on_path, known)?;
+    Some(MixedClass {
+        class: number,
+        switch,
+    })
 }
 
 /// The least class that mixes the versions, with the least switch where it does.
@@ -235,15 +231,7 @@ fn first_mixed(
     on_path: &mut Outcomes,
     known: &mut [Option<KeptPlace>],
 ) -> Option<MixedClass>
-    requires hosts { classes.now.hosts ≡ round.now.task.update.net.hosts }
-    requires old_good { HasGoodPaths round.now.task.update.net round.now.task.update.old
-        round.now.task.update.demands classes.now }
-    requires new_good { HasGoodPaths round.now.task.update.net round.now.task.update.new
-        round.now.task.update.demands classes.now }
-    requires touched { AreTouched classes.now (round_after round.now.number round.now.task.rounds)
-        round.now.touched }
-    requires stands { round.now.stands ≡ true
-        → StandUntouched round.now.task round.now.number classes.now round.now.labels }
+    requires classes { AreReady round.now classes.now }
     requires entry_room { 8192 < length at_entry.old.list + at_entry.old.spare }
     requires path_room { 8192 < length on_path.old.list + on_path.old.spare }
     requires known { AreKept round.now.task round.now.number known.old }
@@ -255,15 +243,9 @@ fn first_mixed(
     ensures path_room { 8192 < length on_path.new.list + on_path.new.spare }
     ensures known { AreKept round.now.task round.now.number known.new }
 {
-    round.keeps_network();
     for number in 0..classes.count() {
-        let class = classes.class(number);
-        let touched = round.is_touched(classes, number);
-        if let Some(switch) = judge_class(round, class, touched, at_entry, on_path, known) {
-            return Some(MixedClass {
-                class: number,
-                switch,
-            });
+        if let Some(mixed) = judge_class(round, classes, number, at_entry, on_path, known) {
+            return Some(mixed);
         }
     }
     None
@@ -288,15 +270,7 @@ fn all_keep(
     on_path: &mut Outcomes,
     known: &mut [Option<KeptPlace>],
 ) -> bool
-    requires hosts { classes.now.hosts ≡ round.now.task.update.net.hosts }
-    requires old_good { HasGoodPaths round.now.task.update.net round.now.task.update.old
-        round.now.task.update.demands classes.now }
-    requires new_good { HasGoodPaths round.now.task.update.net round.now.task.update.new
-        round.now.task.update.demands classes.now }
-    requires touched { AreTouched classes.now (round_after round.now.number round.now.task.rounds)
-        round.now.touched }
-    requires stands { round.now.stands ≡ true
-        → StandUntouched round.now.task round.now.number classes.now round.now.labels }
+    requires classes { AreReady round.now classes.now }
     requires entry_room { 8192 < length at_entry.old.list + at_entry.old.spare }
     requires path_room { 8192 < length on_path.old.list + on_path.old.spare }
     requires known { AreKept round.now.task round.now.number known.old }
@@ -306,14 +280,11 @@ fn all_keep(
     ensures path_room { 8192 < length on_path.new.list + on_path.new.spare }
     ensures known { AreKept round.now.task round.now.number known.new }
 {
-    round.keeps_network();
     let ports = round.ports();
     let count = classes.count();
     for i in 0..count {
         let number = number_at(i, ports, count);
-        let class = classes.class(number);
-        let touched = round.is_touched(classes, number);
-        if let Some(_switch) = judge_class(round, class, touched, at_entry, on_path, known) {
+        if let Some(_mixed) = judge_class(round, classes, number, at_entry, on_path, known) {
             return false;
         }
     }
@@ -328,15 +299,7 @@ fn judge_classes(
     on_path: &mut Outcomes,
     known: &mut [Option<KeptPlace>],
 ) -> Option<MixedClass>
-    requires hosts { classes.now.hosts ≡ round.now.task.update.net.hosts }
-    requires old_good { HasGoodPaths round.now.task.update.net round.now.task.update.old
-        round.now.task.update.demands classes.now }
-    requires new_good { HasGoodPaths round.now.task.update.net round.now.task.update.new
-        round.now.task.update.demands classes.now }
-    requires touched { AreTouched classes.now (round_after round.now.number round.now.task.rounds)
-        round.now.touched }
-    requires stands { round.now.stands ≡ true
-        → StandUntouched round.now.task round.now.number classes.now round.now.labels }
+    requires classes { AreReady round.now classes.now }
     requires entry_room { 8192 < length at_entry.old.list + at_entry.old.spare }
     requires path_room { 8192 < length on_path.old.list + on_path.old.spare }
     ensures none { IfNone result

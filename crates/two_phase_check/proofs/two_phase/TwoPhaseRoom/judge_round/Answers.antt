@@ -42,18 +42,8 @@ bounds-tables-table c =
     let force = force_some c.args.case.now.task e c.args.k c.case.inside.net.now (ap (λ (v : CaseView). v.task.update.net) c.case.view_is) c.advance.new.self.table c.advance.ensures.in_force c.in-Some.table c.in-Some.is in
     subst (λ (xs : List (List Label)). c.in-Some.table < length xs) (sym c.list-tables.ensures) (slice_get_within e.labels c.in-Some.table force.0 force.1)
 
-pub judge_classes-requires-clause-old_good : goal.judge_classes-requires-clause-old_good
-judge_classes-requires-clause-old_good c =
-    let t = c.args.case.now.task in
-    subst (λ (xs : ClassList). HasGoodPaths t.update.net t.update.old t.update.demands xs) (sym c.requires.classes) c.requires.old_good
-
-pub judge_classes-requires-clause-new_good : goal.judge_classes-requires-clause-new_good
-judge_classes-requires-clause-new_good c =
-    let t = c.args.case.now.task in
-    subst (λ (xs : ClassList). HasGoodPaths t.update.net t.update.new t.update.demands xs) (sym c.requires.classes) c.requires.new_good
-
-pub judge_classes-requires-clause-stands : goal.judge_classes-requires-clause-stands
-judge_classes-requires-clause-stands c = λ yes.
+pub judge_classes-requires-clause-classes : goal.judge_classes-requires-clause-classes
+judge_classes-requires-clause-classes c =
     let t = c.args.case.now.task in
     let e = c.args.evidence.now in
     let k = c.args.k in
@@ -62,12 +52,19 @@ judge_classes-requires-clause-stands c = λ yes.
     c.list-labels.ensures ∙ c.index-tables-table.is ∙ ap (λ (xs : List (List Label)). get_or xs c.in-Some.table c.index-tables-table.result) c.list-tables.ensures
     ∙ get_or_from_slice_get e.labels c.in-Some.table force.0 c.index-tables-table.result force.1 in
     let rise = rise_from c.case.inside.net.now _ _ c.case.inside.plan.now.evidence e (ap (λ (v : CaseView). v.evidence) c.case.view_is ∙ c.requires.evidence) c.case.invariant.valid.evidence in
-    let (later, same) = c.keeps_labels-stands.ensures yes in
-    subst (λ (xs : ClassList). StandUntouched t k xs c.list-labels.result.now) (sym c.requires.classes)
-    (subst (λ (ls : List Label). StandUntouched t k (classes_for t) ls) (sym labels)
-    (certificates_stand t e k c.advance.new.self.begun force.0 rise later c.requires.round (subst (λ (v : Evidence). RoundsPass t v k) c.requires.evidence c.requires.before)
-    (subst (λ (v : Evidence). ChangesPass t v k) c.requires.evidence c.requires.pass) force.2 (subst (λ r. AreBegun e.picks r c.advance.new.self.begun) (add-one k) c.advance.ensures.begun)
-    (subst (λ n. HaveBegun e.picks k n) same (subst (λ (s : LabelsInForce). HaveBegun e.picks k s.begun) (sym c.self.view_is) c.requires.stands.begun))))
+    record {
+      hosts = ap (λ (xs : ClassList). xs.hosts) c.requires.classes;
+      old_good = subst (λ (xs : ClassList). HasGoodPaths t.update.net t.update.old t.update.demands xs) (sym c.requires.classes) c.requires.old_good;
+      new_good = subst (λ (xs : ClassList). HasGoodPaths t.update.net t.update.new t.update.demands xs) (sym c.requires.classes) c.requires.new_good;
+      touched = c.mark.ensures;
+      stands = λ yes.
+          let (later, same) = c.keeps_labels-stands.ensures yes in
+          subst (λ (xs : ClassList). StandUntouched t k xs c.list-labels.result.now) (sym c.requires.classes)
+          (subst (λ (ls : List Label). StandUntouched t k (classes_for t) ls) (sym labels)
+          (certificates_stand t e k c.advance.new.self.begun force.0 rise later c.requires.round (subst (λ (v : Evidence). RoundsPass t v k) c.requires.evidence c.requires.before)
+          (subst (λ (v : Evidence). ChangesPass t v k) c.requires.evidence c.requires.pass) force.2 (subst (λ r. AreBegun e.picks r c.advance.new.self.begun) (add-one k) c.advance.ensures.begun)
+          (subst (λ n. HaveBegun e.picks k n) same (subst (λ (s : LabelsInForce). HaveBegun e.picks k s.begun) (sym c.self.view_is) c.requires.stands.begun))));
+    }
 
 pub returns-in_err-mixed-clause-none : goal.returns-in_err-mixed-clause-none
 returns-in_err-mixed-clause-none c =

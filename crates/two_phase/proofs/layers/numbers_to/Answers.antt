@@ -1,10 +1,10 @@
 use Rattle.std.proofs.Common.{◌≡◌, ℕ, suc, ◌+◌, ◌∷◌, [], ◌++◌, List, sym, ◌∙◌, ap, arith}
 use Rattle.tag_allocator.specs.Tags.{numbers_from}
 use Rattle.tag_allocator.proofs.TagLaws.{numbers_more}
-use Rattle.two_phase.proofs.depth_rounds.first_numbers.Goals as goal
+use Rattle.two_phase.proofs.layers.numbers_to.Goals as goal
 
 pub loop-number-preserved : goal.loop-number-preserved
 loop-number-preserved c =
     let n = c.loop-number.number in
     let e : suc n ≡ n + 1 = omega arith in
-    c.in_ok-push.ensures.items ∙ ap (λ (ns : List ℕ). ns ++ n ∷ []) c.loop-number.invariant ∙ sym (numbers_more 0 n n (omega arith)) ∙ ap (numbers_from 0) e
+    c.in_ok-push-2.ensures.items ∙ ap (λ (ns : List ℕ). ns ++ (n + 1) ∷ []) (c.loop-number.invariant ∙ ap (numbers_from 0) e) ∙ sym (numbers_more 0 (n + 1) (n + 1) (omega arith))

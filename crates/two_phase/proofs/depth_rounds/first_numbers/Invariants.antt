@@ -1,6 +1,0 @@
-use Rattle.std.proofs.Common.{◌≡◌}
-use Rattle.tag_allocator.specs.Tags.{numbers_from}
-use Rattle.two_phase.proofs.depth_rounds.first_numbers.Given as goal
-
-abbrev pub invariant-loop-number : goal.invariant-loop-number
-invariant-loop-number l = l.numbers.items ≡ numbers_from 0 l.number
