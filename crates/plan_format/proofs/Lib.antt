@@ -5,3 +5,4 @@ pub mod ReadLaws
 pub mod ValidChanges
 pub mod ValidEvidence
 pub mod ValidPlans
+pub mod TurnLaws

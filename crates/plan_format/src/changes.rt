@@ -263,47 +263,31 @@ fn read_change(
     Ok(())
 }
 
-/// Reads the changes of a round, which are numbered from `first` on.
-fn read_changes(
-    alloc: Global,
-    list: ChangeList,
-    first: usize,
-    tree: &Tree<'_>,
-    items: &[Node],
-) -> Result<Vec<Change>, PlanFault>
-    ensures value { Gives Memory (λ v. v.items) result
-        (in_turn (plan.change_at list.entry.net.now list.entry.spelling.now list.entry.name) first
-        [] (map (data_of tree.now) items.now)) }
-    ensures few { IfOk result (λ v. length v.items ≤ 2200000 - first) }
-{
-    let mut changes = Vec::new(alloc);
-    let mut number = first;
-    for item in items {
-        read_change(list, &mut changes, place_of(number), tree, item)?;
-        number += 1;
-    }
-    Ok(changes)
-}
-
 /// Reads a round whose first change has this number.
-#[tactic(auto, unfolding(crate::specs::Changes::round_in))]
+#[tactic(auto, using(crate::proofs::TurnLaws::turns), unfolding(crate::specs::Changes::round_in))]
 fn read_round(
     alloc: Global,
     list: ChangeList,
     place: u32,
-    number: usize,
+    first: usize,
     tree: &Tree<'_>,
     item: &Node,
 ) -> Result<Vec<Change>, PlanFault>
     ensures value { Gives Memory (λ v. v.items) result
-        (plan.round_in list.entry.net.now list.entry.spelling.now list.entry.name place number
+        (plan.round_in list.entry.net.now list.entry.spelling.now list.entry.name place first
         (data_of tree.now item.now)) }
-    ensures few { IfOk result (λ v. length v.items ≤ 2200000 - number) }
+    ensures few { IfOk result (λ v. length v.items ≤ 2200000 - first) }
 {
     let items = tree
         .list_in(item)
         .ok_or(PlanFault::Shape(list.name, place))?;
-    read_changes(alloc, list, number, tree, items)
+    let mut changes = Vec::new(alloc);
+    let mut number = first;
+    for change in items {
+        read_change(list, &mut changes, place_of(number), tree, change)?;
+        number += 1;
+    }
+    Ok(changes)
 }
 
 /// Reads one more round.
@@ -331,27 +315,8 @@ fn read_next_round(
     Ok(())
 }
 
-fn read_each_round(
-    alloc: Global,
-    list: ChangeList,
-    tree: &Tree<'_>,
-    items: &[Node],
-) -> Result<CountedRounds, PlanFault>
-    requires { list.first ≤ 2200000 }
-    ensures value { Gives Memory (λ r. r) result
-        (in_turn (plan.round_at list.entry.net.now list.entry.spelling.now list.entry.name
-        list.entry.first) 0 [] (map (data_of tree.now) items.now)) }
-    ensures count { IfOk result (λ r. length r ≡ length items.now) }
-{
-    let mut rounds = CountedRounds::make(alloc)?;
-    for (i, item) in items.iter().enumerate() {
-        read_next_round(alloc, list, &mut rounds, place_of(i), tree, item)?;
-    }
-    Ok(rounds)
-}
-
 /// Reads the member with this name: at most so many rounds.
-#[tactic(auto, unfolding(crate::specs::Changes::rounds_in))]
+#[tactic(auto, using(crate::proofs::TurnLaws::turns), unfolding(crate::specs::Changes::rounds_in))]
 pub(crate) fn read_rounds(
     alloc: Global,
     list: ChangeList,
@@ -371,7 +336,11 @@ pub(crate) fn read_rounds(
     if items.len() > most {
         return Err(PlanFault::TooMany(list.name));
     }
-    read_each_round(alloc, list, tree, items)
+    let mut rounds = CountedRounds::make(alloc)?;
+    for (i, item) in items.iter().enumerate() {
+        read_next_round(alloc, list, &mut rounds, place_of(i), tree, item)?;
+    }
+    Ok(rounds)
 }
 
 /// Reads one more rule.
@@ -398,24 +367,8 @@ fn read_next_rule(
     Ok(())
 }
 
-fn read_each_rule(
-    alloc: Global,
-    net: &Net,
-    tree: &Tree<'_>,
-    items: &[Node],
-) -> Result<PlanRules, PlanFault>
-    ensures { Gives Memory (λ r. r) result
-        (in_turn (plan.rule_at net.now) 0 [] (map (data_of tree.now) items.now)) }
-{
-    let mut rules = PlanRules::empty(alloc);
-    for (i, item) in items.iter().enumerate() {
-        read_next_rule(net, &mut rules, place_of(i), tree, item)?;
-    }
-    Ok(rules)
-}
-
 /// Reads the member `rules`.
-#[tactic(auto, unfolding(crate::specs::Changes::rules_in))]
+#[tactic(auto, using(crate::proofs::TurnLaws::turns), unfolding(crate::specs::Changes::rules_in))]
 pub(crate) fn read_rules(
     alloc: Global,
     net: &Net,
@@ -427,5 +380,9 @@ pub(crate) fn read_rules(
     let items = tree
         .list_at(top, "rules")
         .ok_or(PlanFault::Shape(Field::Rules, 0))?;
-    read_each_rule(alloc, net, tree, items)
+    let mut rules = PlanRules::empty(alloc);
+    for (i, item) in items.iter().enumerate() {
+        read_next_rule(net, &mut rules, place_of(i), tree, item)?;
+    }
+    Ok(rules)
 }

@@ -40,24 +40,8 @@ fn read_height(
     Ok(())
 }
 
-fn read_each_height(
-    alloc: Global,
-    place: u32,
-    tree: &Tree<'_>,
-    items: &[Node],
-) -> Result<Numbering, PlanFault>
-    ensures { Gives Memory (λ n. n) result
-        (in_turn (λ i. plan.height_at place) 0 [] (map (data_of tree.now) items.now)) }
-{
-    let mut numbering = Numbering::make(alloc)?;
-    for item in items {
-        read_height(place, &mut numbering, tree, item)?;
-    }
-    Ok(numbering)
-}
-
 /// Reads a number for each switch.
-#[tactic(auto, unfolding(crate::specs::Evidence::numbering_in))]
+#[tactic(auto, using(crate::proofs::TurnLaws::turns), unfolding(crate::specs::Evidence::numbering_in))]
 fn read_numbering(
     alloc: Global,
     net: &Net,
@@ -74,7 +58,11 @@ fn read_numbering(
     if items.len() != net.switches() as usize {
         return Err(PlanFault::Shape(Field::Numberings, place));
     }
-    read_each_height(alloc, place, tree, items)
+    let mut numbering = Numbering::make(alloc)?;
+    for height in items {
+        read_height(place, &mut numbering, tree, height)?;
+    }
+    Ok(numbering)
 }
 
 /// Reads one more numbering.
@@ -98,24 +86,8 @@ fn read_next_numbering(
     Ok(())
 }
 
-fn read_each_numbering(
-    alloc: Global,
-    net: &Net,
-    tree: &Tree<'_>,
-    items: &[Node],
-) -> Result<Numberings, PlanFault>
-    ensures { Gives Memory (λ n. n) result
-        (in_turn (plan.numbering_at net.now) 0 [] (map (data_of tree.now) items.now)) }
-{
-    let mut numberings = Numberings::make(alloc)?;
-    for (i, item) in items.iter().enumerate() {
-        read_next_numbering(alloc, net, &mut numberings, place_of(i), tree, item)?;
-    }
-    Ok(numberings)
-}
-
 /// Reads the member `numberings`.
-#[tactic(auto, unfolding(crate::specs::Evidence::numberings_in))]
+#[tactic(auto, using(crate::proofs::TurnLaws::turns), unfolding(crate::specs::Evidence::numberings_in))]
 pub(crate) fn read_numberings(
     alloc: Global,
     net: &Net,
@@ -127,7 +99,11 @@ pub(crate) fn read_numberings(
     let items = tree
         .list_at(top, "numberings")
         .ok_or(PlanFault::Shape(Field::Numberings, 0))?;
-    read_each_numbering(alloc, net, tree, items)
+    let mut numberings = Numberings::make(alloc)?;
+    for (i, item) in items.iter().enumerate() {
+        read_next_numbering(alloc, net, &mut numberings, place_of(i), tree, item)?;
+    }
+    Ok(numberings)
 }
 
 fn set_of(switches: &[u64]) -> Before
@@ -177,24 +153,8 @@ fn read_before(
     Ok(())
 }
 
-fn read_each_before(
-    alloc: Global,
-    net: &Net,
-    tree: &Tree<'_>,
-    items: &[Node],
-) -> Result<Befores, PlanFault>
-    ensures { Gives Memory (λ b. b) result
-        (in_turn (plan.before_at net.now) 0 [] (map (data_of tree.now) items.now)) }
-{
-    let mut befores = Befores::make(alloc)?;
-    for (i, item) in items.iter().enumerate() {
-        read_before(alloc, net, &mut befores, place_of(i), tree, item)?;
-    }
-    Ok(befores)
-}
-
 /// Reads the member `befores`.
-#[tactic(auto, unfolding(crate::specs::Evidence::befores_in))]
+#[tactic(auto, using(crate::proofs::TurnLaws::turns), unfolding(crate::specs::Evidence::befores_in))]
 pub(crate) fn read_befores(
     alloc: Global,
     net: &Net,
@@ -206,7 +166,11 @@ pub(crate) fn read_befores(
     let items = tree
         .list_at(top, "befores")
         .ok_or(PlanFault::Shape(Field::Befores, 0))?;
-    read_each_before(alloc, net, tree, items)
+    let mut befores = Befores::make(alloc)?;
+    for (i, item) in items.iter().enumerate() {
+        read_before(alloc, net, &mut befores, place_of(i), tree, item)?;
+    }
+    Ok(befores)
 }
 
 /// Reads the numbers of before sets, beside the number of a numbering.

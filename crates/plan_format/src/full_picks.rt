@@ -155,27 +155,8 @@ fn read_full_pick(
     add_full_pick(keys, table, place, round as u32, class as u32, shared)
 }
 
-fn read_each_full_pick(
-    alloc: Global,
-    counts: Counts,
-    tree: &Tree<'_>,
-    items: &[Node],
-) -> Result<PickTable, PlanFault>
-    requires { counts.rounds ≤ 4200 }
-    ensures { Gives Memory (λ t. t) result
-        (in_turn (plan.full_pick_at counts.rounds counts.numberings counts.befores) 0
-        (record { uses = []; picks = [] }) (map (data_of tree.now) items.now)) }
-{
-    let mut keys = SharedKeys::empty(alloc);
-    let mut table = PickTable::empty(alloc)?;
-    for (i, item) in items.iter().enumerate() {
-        read_full_pick(counts, &mut keys, &mut table, place_of(i), tree, item)?;
-    }
-    Ok(table)
-}
-
 /// Reads the member `picks` of format 1.
-#[tactic(auto, unfolding(crate::specs::Evidence::full_picks_in))]
+#[tactic(auto, using(crate::proofs::TurnLaws::turns), unfolding(crate::specs::Evidence::full_picks_in))]
 pub(crate) fn read_full_picks(
     alloc: Global,
     counts: Counts,
@@ -190,5 +171,10 @@ pub(crate) fn read_full_picks(
     let items = tree
         .list_at(top, "picks")
         .ok_or(PlanFault::Shape(Field::Picks, 0))?;
-    read_each_full_pick(alloc, counts, tree, items)
+    let mut keys = SharedKeys::empty(alloc);
+    let mut table = PickTable::empty(alloc)?;
+    for (i, item) in items.iter().enumerate() {
+        read_full_pick(counts, &mut keys, &mut table, place_of(i), tree, item)?;
+    }
+    Ok(table)
 }

@@ -74,6 +74,7 @@ fn read_label(
     Ok(())
 }
 
+#[tactic(auto, using(crate::proofs::TurnLaws::turns))]
 fn read_each_label(
     alloc: Global,
     place: u32,
@@ -159,19 +160,8 @@ fn read_next_table(
     Ok(())
 }
 
-fn read_each_table(alloc: Global, tree: &Tree<'_>, items: &[Node]) -> Result<LabelTables, PlanFault>
-    ensures { Gives Memory (λ t. t) result
-        (in_turn plan.table_at 0 [] (map (data_of tree.now) items.now)) }
-{
-    let mut tables = LabelTables::make(alloc)?;
-    for (i, item) in items.iter().enumerate() {
-        read_next_table(alloc, &mut tables, place_of(i), tree, item)?;
-    }
-    Ok(tables)
-}
-
 /// Reads the member `labels`.
-#[tactic(auto, unfolding(crate::specs::Evidence::labels_in))]
+#[tactic(auto, using(crate::proofs::TurnLaws::turns), unfolding(crate::specs::Evidence::labels_in))]
 pub(crate) fn read_labels(
     alloc: Global,
     tree: &Tree<'_>,
@@ -182,7 +172,11 @@ pub(crate) fn read_labels(
     let items = tree
         .list_at(top, "labels")
         .ok_or(PlanFault::Shape(Field::Labels, 0))?;
-    read_each_table(alloc, tree, items)
+    let mut tables = LabelTables::make(alloc)?;
+    for (i, item) in items.iter().enumerate() {
+        read_next_table(alloc, &mut tables, place_of(i), tree, item)?;
+    }
+    Ok(tables)
 }
 
 /// Whether the last of the picks, if there is one, comes before this one.
@@ -250,26 +244,8 @@ fn read_label_pick(
     add_pick(picks, place, pick)
 }
 
-fn read_each_label_pick(
-    alloc: Global,
-    rounds: usize,
-    tables: usize,
-    tree: &Tree<'_>,
-    items: &[Node],
-) -> Result<LabelPicks, PlanFault>
-    requires { rounds ≤ 4200 }
-    ensures { Gives Memory (λ p. p) result
-        (in_turn (plan.label_pick_at rounds tables) 0 [] (map (data_of tree.now) items.now)) }
-{
-    let mut picks = LabelPicks::make(alloc)?;
-    for (i, item) in items.iter().enumerate() {
-        read_label_pick(rounds, tables, &mut picks, place_of(i), tree, item)?;
-    }
-    Ok(picks)
-}
-
 /// Reads the member `picks` of a two-phase plan.
-#[tactic(auto, unfolding(crate::specs::Evidence::label_picks_in))]
+#[tactic(auto, using(crate::proofs::TurnLaws::turns), unfolding(crate::specs::Evidence::label_picks_in))]
 pub(crate) fn read_label_picks(
     alloc: Global,
     rounds: usize,
@@ -284,5 +260,9 @@ pub(crate) fn read_label_picks(
     let items = tree
         .list_at(top, "picks")
         .ok_or(PlanFault::Shape(Field::Picks, 0))?;
-    read_each_label_pick(alloc, rounds, tables, tree, items)
+    let mut picks = LabelPicks::make(alloc)?;
+    for (i, item) in items.iter().enumerate() {
+        read_label_pick(rounds, tables, &mut picks, place_of(i), tree, item)?;
+    }
+    Ok(picks)
 }

@@ -44,25 +44,8 @@ fn read_number(
     Ok(())
 }
 
-fn read_each_number(
-    alloc: Global,
-    field: Field,
-    place: u32,
-    tree: &Tree<'_>,
-    items: &[Node],
-) -> Result<IndexList, PlanFault>
-    ensures { Gives Memory (λ l. l) result
-        (in_turn (λ i. plan.number_at field place) 0 [] (map (data_of tree.now) items.now)) }
-{
-    let mut numbers = IndexList::make(alloc)?;
-    for item in items {
-        read_number(field, place, &mut numbers, tree, item)?;
-    }
-    Ok(numbers)
-}
-
 /// Reads a list of whole numbers, in the item at this place of the member.
-#[tactic(auto, unfolding(crate::specs::Evidence::numbers_in))]
+#[tactic(auto, using(crate::proofs::TurnLaws::turns), unfolding(crate::specs::Evidence::numbers_in))]
 pub(crate) fn read_numbers(
     alloc: Global,
     field: Field,
@@ -74,7 +57,11 @@ pub(crate) fn read_numbers(
         (plan.numbers_in field place (data_of tree.now item.now)) }
 {
     let items = tree.list_in(item).ok_or(PlanFault::Shape(field, place))?;
-    read_each_number(alloc, field, place, tree, items)
+    let mut numbers = IndexList::make(alloc)?;
+    for number in items {
+        read_number(field, place, &mut numbers, tree, number)?;
+    }
+    Ok(numbers)
 }
 
 /// Whether all numbers are below a limit.

@@ -78,25 +78,8 @@ fn read_use(
     Ok(())
 }
 
-fn read_each_use(
-    alloc: Global,
-    counts: Counts,
-    tree: &Tree<'_>,
-    items: &[Node],
-) -> Result<Uses, PlanFault>
-    ensures { Gives Memory (λ u. u) result
-        (in_turn (plan.use_at counts.numberings counts.befores) 0 []
-        (map (data_of tree.now) items.now)) }
-{
-    let mut uses = Uses::make(alloc)?;
-    for (i, item) in items.iter().enumerate() {
-        read_use(alloc, counts, &mut uses, place_of(i), tree, item)?;
-    }
-    Ok(uses)
-}
-
 /// Reads the member `uses`.
-#[tactic(auto, unfolding(crate::specs::Evidence::uses_in))]
+#[tactic(auto, using(crate::proofs::TurnLaws::turns), unfolding(crate::specs::Evidence::uses_in))]
 fn read_uses(alloc: Global, counts: Counts, tree: &Tree<'_>, top: &Node) -> Result<Uses, PlanFault>
     ensures { Gives Memory (λ u. u) result
         (plan.uses_in counts.numberings counts.befores (data_of tree.now top.now)) }
@@ -104,7 +87,11 @@ fn read_uses(alloc: Global, counts: Counts, tree: &Tree<'_>, top: &Node) -> Resu
     let items = tree
         .list_at(top, "uses")
         .ok_or(PlanFault::Shape(Field::Uses, 0))?;
-    read_each_use(alloc, counts, tree, items)
+    let mut uses = Uses::make(alloc)?;
+    for (i, item) in items.iter().enumerate() {
+        read_use(alloc, counts, &mut uses, place_of(i), tree, item)?;
+    }
+    Ok(uses)
 }
 
 /// Whether one pick comes before another, by round and then by class.
@@ -195,26 +182,8 @@ fn read_pick(
     add_pick(picks, place, pick)
 }
 
-fn read_each_pick(
-    alloc: Global,
-    rounds: usize,
-    uses: usize,
-    tree: &Tree<'_>,
-    items: &[Node],
-) -> Result<OrderedPicks, PlanFault>
-    requires { rounds ≤ 4200 }
-    ensures { Gives Memory (λ p. p) result
-        (in_turn (plan.pick_at rounds uses) 0 [] (map (data_of tree.now) items.now)) }
-{
-    let mut picks = OrderedPicks::make(alloc)?;
-    for (i, item) in items.iter().enumerate() {
-        read_pick(rounds, uses, &mut picks, place_of(i), tree, item)?;
-    }
-    Ok(picks)
-}
-
 /// Reads the member `picks`.
-#[tactic(auto, unfolding(crate::specs::Evidence::picks_in))]
+#[tactic(auto, using(crate::proofs::TurnLaws::turns), unfolding(crate::specs::Evidence::picks_in))]
 fn read_picks(
     alloc: Global,
     rounds: usize,
@@ -228,7 +197,11 @@ fn read_picks(
     let items = tree
         .list_at(top, "picks")
         .ok_or(PlanFault::Shape(Field::Picks, 0))?;
-    read_each_pick(alloc, rounds, uses, tree, items)
+    let mut picks = OrderedPicks::make(alloc)?;
+    for (i, item) in items.iter().enumerate() {
+        read_pick(rounds, uses, &mut picks, place_of(i), tree, item)?;
+    }
+    Ok(picks)
 }
 
 /// Reads the members `uses` and `picks`.

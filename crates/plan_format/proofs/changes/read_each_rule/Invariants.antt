@@ -1,8 +1,0 @@
-use Rattle.std.proofs.Common.{◌≡◌, [], map, drop}
-use Rattle.flat_json.specs.Trees.{data_of}
-use Rattle.net_base.specs.Reading.{in_turn}
-use Rattle.plan_format.specs.Changes.{rule_at}
-use Rattle.plan_format.proofs.changes.read_each_rule.Given as goal
-
-abbrev pub invariant-loop-i : goal.invariant-loop-i
-invariant-loop-i l = in_turn (rule_at l.net) l.i l.rules (map (data_of l.tree) (drop l.i l.items)) ≡ in_turn (rule_at l.net) 0 [] (map (data_of l.tree) l.items)
