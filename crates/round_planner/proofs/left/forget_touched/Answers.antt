@@ -12,8 +12,8 @@ pub loop-one-preserved : goal.loop-one-preserved
 loop-one-preserved c =
     let left = c.loop-one.left in
     let i = c.loop-one.one-index in
-    let old : Left = get_or left i c.one-item.result in
-    let new : Left = c.forget.new.self in
+    let old : RemainingChange = get_or left i c.one-item.result in
+    let new : RemainingChange = c.forget.new.self in
     let is : old ≡ get_or left i old = ap (λ (z : RemainingChange). get_or left i z) c.one-item.is in
     let (changes, rest, standing) = c.loop-one.invariant in
     let less : i < length left = omega (arith, c.loop-one-test.true, c.loop-one.auto.left) in

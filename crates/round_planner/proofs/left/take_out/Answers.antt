@@ -12,8 +12,8 @@ use Rattle.round_planner.proofs.left.take_out.Goals as goal
 
 pub returns-clause-stands : goal.returns-clause-stands
 returns-clause-stands c = λ front back one are at_place to tables users stands.
-    let made : Left = c.remove-made.result in
-    let all : List Left = c.args.left.now.items in
+    let made : RemainingChange = c.remove-made.result in
+    let all : List RemainingChange = c.args.left.now.items in
     let new = c.forget_touched.new.left in
     let same : (with_items c.remove-made.new.self new).items ≡ new = with_items_is c.remove-made.new.self new (omega arith) in
     let is : made ≡ one = c.remove-made.ensures.value ∙ ap (λ (xs : List RemainingChange). get_or xs c.args.place made) are ∙ get_or_at front one back made c.args.place at_place in

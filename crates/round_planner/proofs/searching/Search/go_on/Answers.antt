@@ -15,7 +15,7 @@ pub returns-in-Some : goal.returns-in-Some
 returns-in-Some c = λ old changes user at are.
     let to = c.args.goal.now in
     let new_user = subst (λ (a : Target). IsUserConfig a.net a.new) c.goal.view_is c.goal.invariant.user in
-    let new : List Left = c.take_first.new.left in
+    let new : List RemainingChange = c.take_first.new.left in
     let same : (with_items c.args.left.now new).items ≡ new = with_items_is c.args.left.now new (omega arith) in
     let lent = subst (AreLeft to (tables_after changes old)) (sym c.deref_mut.ensures.value) are in
     let (placed, standing) = c.in_ok-place.ensures.placed old changes user at lent in

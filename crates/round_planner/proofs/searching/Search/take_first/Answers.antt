@@ -17,7 +17,7 @@ try_left-requires c =
     let (none, standing, here) = rest old changes user at are in
     let left = c.loop-place.left in
     let i = c.loop-place.place in
-    let x : Left = get_or left i c.index-left-place.result in
+    let x : RemainingChange = get_or left i c.index-left-place.result in
     let less : i < length left = omega (arith, c.loop-place-test.true, c.loop-place.auto.left) in
     let is : x ≡ get_or left i x = ap (λ (z : RemainingChange). get_or left i z) c.index-left-place.is in
     let left_are : AreLeft to (tables_after changes old) left = record { changes = same ∙ are.changes; standing = standing } in
@@ -29,8 +29,8 @@ loop-place-preserved c =
     let (same, rest) = c.loop-place.invariant in
     let left = c.loop-place.left in
     let i = c.loop-place.place in
-    let x : Left = get_or left i c.index-left-place.result in
-    let y : Left = c.try_left.new.left in
+    let x : RemainingChange = get_or left i c.index-left-place.result in
+    let y : RemainingChange = c.try_left.new.left in
     let less : i < length left = omega (arith, c.loop-place-test.true, c.loop-place.auto.left) in
     let is : x ≡ get_or left i x = ap (λ (z : RemainingChange). get_or left i z) c.index-left-place.is in
     let change : y.change ≡ x.change = c.in_ok-try_left.ensures.change in (
@@ -49,7 +49,7 @@ returns-then-branch-clause-changes c =
     let (same, rest) = c.loop-place.invariant in
     let left = c.loop-place.left in
     let i = c.loop-place.place in
-    let x : Left = get_or left i c.index-left-place.result in
+    let x : RemainingChange = get_or left i c.index-left-place.result in
     let less : i < length left = omega (arith, c.loop-place-test.true, c.loop-place.auto.left) in
     map_set change_of left i x c.try_left.new.left less (ap (λ (z : RemainingChange). get_or left i z) c.index-left-place.is) c.in_ok-try_left.ensures.change ∙ same
 
@@ -60,8 +60,8 @@ returns-then-branch-clause-placed c = λ old changes user at are.
     let (none, standing, here) = rest old changes user at are in
     let left = c.loop-place.left in
     let i = c.loop-place.place in
-    let x : Left = get_or left i c.index-left-place.result in
-    let y : Left = c.try_left.new.left in
+    let x : RemainingChange = get_or left i c.index-left-place.result in
+    let y : RemainingChange = c.try_left.new.left in
     let less : i < length left = omega (arith, c.loop-place-test.true, c.loop-place.auto.left) in
     let is : x ≡ get_or left i x = ap (λ (z : RemainingChange). get_or left i z) c.index-left-place.is in
     let left_are : AreLeft to (tables_after changes old) left = record { changes = same ∙ are.changes; standing = standing } in
