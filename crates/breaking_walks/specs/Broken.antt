@@ -6,10 +6,14 @@ use Rattle.net_base.specs.declared.ids.SwitchId.{SwitchId}
 use Rattle.net_base.specs.declared.ids.Place.{Place}
 use Rattle.path_walk.specs.declared.Outcome.{Outcome}
 use Rattle.path_walk.specs.declared.Outcome.TheVariants.{Discard, Leave, Go}
-use Rattle.demands.specs.Duties.{PacketDuties}
+use Rattle.dest_classes.specs.declared.Class.{Class}
+use Rattle.demands.specs.Duties.{DemandView, PacketDuties, duties_of}
 use Rattle.update_model.specs.Mixtures.{Rollout, IsPossible, IsMixedWalk}
 use Rattle.certificates.specs.Steps.{switches_along}
 use Rattle.breaking_walks.specs.declared.search.Aim.TheVariants.{LeaveUnmet}
+use Rattle.breaking_walks.specs.declared.BreakingWalk.{BreakingWalk}
+use Rattle.breaking_walks.specs.declared.round.PreparedRound.{PreparedRound}
+use Rattle.breaking_walks.specs.Rounds.{round_rollout}
 use Rattle.breaking_walks.specs.Searches.{IsNoneFound}
 use Rattle.breaking_walks.specs.Breaking.{MissesSome, MayLeaveUnmet, switches_before}
 
@@ -24,6 +28,11 @@ BrokenBy u k dst entry duties rest (Some (Go next)) = ⊥
 pub record IsBroken (u : Rollout) (k dst : ℕ) (entry : Place) (duties : PacketDuties) (rest : List Place) (end : Option Outcome) : Type 0 where
   pub walk : IsMixedWalk u k dst entry rest
   pub by : BrokenBy u k dst entry duties rest end
+
+-- a walk with its end breaks so the duties of a class in a round
+abbrev pub IsBrokenIn : PreparedRound → List DemandView → Class → BreakingWalk → Type 0
+IsBrokenIn round demands class w =
+    IsBroken (round_rollout round) round.number class.first class.entry (duties_of demands class.entry class.first) w.rest w.end
 
 -- no packet that must arrive may be discarded
 abbrev pub IsNoneDropped : Rollout → ℕ → ℕ → Place → PacketDuties → Type 0

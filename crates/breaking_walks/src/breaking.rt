@@ -12,7 +12,7 @@ ghost use Rattle.update_model.specs.Mixtures.{IsPossible};
 ghost use Rattle.breaking_walks.specs.Rounds.{round_rollout, SwitchesArePrepared};
 ghost use Rattle.breaking_walks.specs.Searches.{MayLeaveAt, IsNoneFound};
 ghost use Rattle.breaking_walks.specs.Breaking.{HasBreakingWalk};
-ghost use Rattle.breaking_walks.specs.Broken.{IsBroken, IsNoneDropped, IsNoneUnmet, IsNoneTwice};
+ghost use Rattle.breaking_walks.specs.Broken.{IsBroken, IsBrokenIn, IsNoneDropped, IsNoneUnmet, IsNoneTwice};
 
 use crate::BreakingWalk;
 use crate::falling::are_walks_falling;
@@ -82,10 +82,7 @@ fn find_drop(
     requires entry { numbered.class.entry.switch.0 < switch_count round.net.now }
     ensures some { IfOk result
         (λ found. IfSome found
-        (λ w. IsBroken (round_rollout round.entry) round.entry.number
-        numbered.class.first numbered.class.entry
-        (duties_of duties.now.demands numbered.class.entry numbered.class.first) w.rest
-        w.end)) }
+        (IsBrokenIn round.entry duties.now.demands numbered.class)) }
     ensures none { IfOk result
         (λ found. IfNone found
         (IsNoneDropped (round_rollout round.entry) round.entry.number
@@ -150,10 +147,7 @@ fn find_miss(
     requires entry { numbered.class.entry.switch.0 < switch_count round.net.now }
     ensures some { IfOk result
         (λ found. IfSome found
-        (λ w. IsBroken (round_rollout round.entry) round.entry.number
-        numbered.class.first numbered.class.entry
-        (duties_of duties.now.demands numbered.class.entry numbered.class.first) w.rest
-        w.end)) }
+        (IsBrokenIn round.entry duties.now.demands numbered.class)) }
     ensures none { IfOk result
         (λ found. IfNone found
         (IsNoneUnmet (round_rollout round.entry) round.entry.number
@@ -220,10 +214,7 @@ pub(crate) fn find_breaking(
     requires entry { numbered.class.entry.switch.0 < switch_count round.net.now }
     ensures some { IfOk result
         (λ found. IfSome found
-        (λ w. IsBroken (round_rollout round.entry) round.entry.number
-        numbered.class.first numbered.class.entry
-        (duties_of duties.now.demands numbered.class.entry numbered.class.first) w.rest
-        w.end)) }
+        (IsBrokenIn round.entry duties.now.demands numbered.class)) }
     ensures none { IfOk result
         (λ found. IfNone found
         (¬ HasBreakingWalk (round_rollout round.entry) round.entry.number

@@ -1,12 +1,12 @@
 use Rattle.std.proofs.Common.{subst}
-use Rattle.std.specs.Prelude.{Option, IfSome, IfNone}
+use Rattle.std.specs.Prelude.{Option, IfNone}
 use Rattle.std.proofs.lemmas.Option.{IfSome_then}
 use Rattle.std.proofs.lemmas.Result.{IfOk-weaker}
 use Rattle.topology.specs.Networks.{IsNetwork, switch_count}
-use Rattle.demands.specs.Duties.{PacketDuties, duties_of}
+use Rattle.demands.specs.Duties.{duties_of}
 use Rattle.breaking_walks.specs.Rounds.{round_rollout}
 use Rattle.breaking_walks.specs.Breaking.{HasBreakingWalk}
-use Rattle.breaking_walks.specs.Broken.{IsBroken, IsNoneDropped, IsNoneUnmet, IsNoneTwice}
+use Rattle.breaking_walks.specs.Broken.{IsNoneDropped, IsNoneUnmet, IsNoneTwice}
 use Rattle.breaking_walks.specs.declared.BreakingWalk.{BreakingWalk}
 use Rattle.breaking_walks.proofs.BreakLaws.{none_then, none_breaks}
 use Rattle.breaking_walks.proofs.WithinLaws.{end_within}
@@ -14,13 +14,8 @@ use Rattle.breaking_walks.proofs.breaking.find_breaking.Goals as goal
 
 pub returns-clause-some : goal.returns-clause-some
 returns-clause-some c =
-    let u = round_rollout c.args.round in
-    let k = c.args.round.number in
-    let entry = c.args.numbered.class.entry in
-    let dst = c.args.numbered.class.first in
-    let duties = duties_of c.args.duties.now.demands entry dst in
-    IfOk-weaker c.find_repeat.result (λ (found : Option BreakingWalk). IfSome found (λ w. (d : PacketDuties) → IsBroken u k dst entry d w.rest w.end))
-    (λ (found : Option BreakingWalk). IfSome found (λ w. IsBroken u k dst entry duties w.rest w.end)) (λ found broken. IfSome_then found broken (λ w all. all duties)) c.find_repeat.ensures.some
+    let duties = duties_of c.args.duties.now.demands c.args.numbered.class.entry c.args.numbered.class.first in
+    IfOk-weaker c.find_repeat.result _ _ (λ found broken. IfSome_then found broken (λ w all. all duties)) c.find_repeat.ensures.some
 
 pub returns-clause-none : goal.returns-clause-none
 returns-clause-none c =
