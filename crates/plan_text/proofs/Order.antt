@@ -24,49 +24,32 @@ in_order dst out priority switch in_port set strip vlan =
     member (codes "dst") dst (member_if (codes "in_port") in_port (member (codes "out") out (member (codes "priority") priority
     (member_if (codes "set") set (member_if (codes "strip") strip (member (codes "switch") switch (member_if (codes "vlan") vlan no_members)))))))
 
--- in whichever order they were put
-pub put_in_order : (x y z w : Data) (a b c e : Option Data)
-    → put_some (codes "vlan") e (put_some (codes "strip") c (put_some (codes "set") b (put_some (codes "in_port") a
-    (put (codes "switch") w (put (codes "priority") z (put (codes "out") y (put (codes "dst") x no_members))))))) ≡ in_order x y z w a b c e
-put_in_order x y z w None None None None = refl
-put_in_order x y z w None None None (Some e) = refl
-put_in_order x y z w None None (Some c) None = refl
-put_in_order x y z w None None (Some c) (Some e) = refl
-put_in_order x y z w None (Some b) None None = refl
-put_in_order x y z w None (Some b) None (Some e) = refl
-put_in_order x y z w None (Some b) (Some c) None = refl
-put_in_order x y z w None (Some b) (Some c) (Some e) = refl
-put_in_order x y z w (Some a) None None None = refl
-put_in_order x y z w (Some a) None None (Some e) = refl
-put_in_order x y z w (Some a) None (Some c) None = refl
-put_in_order x y z w (Some a) None (Some c) (Some e) = refl
-put_in_order x y z w (Some a) (Some b) None None = refl
-put_in_order x y z w (Some a) (Some b) None (Some e) = refl
-put_in_order x y z w (Some a) (Some b) (Some c) None = refl
-put_in_order x y z w (Some a) (Some b) (Some c) (Some e) = refl
-
 -- the members, put one after the other among others
 abbrev pub put_all : Members → Members → Members
 put_all no_members found = found
 put_all (member k d ms) found = put_all ms (put k d found)
 
-pub all_in_order : (x y z w : Data) (a b c e : Option Data) → put_all (in_order x y z w a b c e) no_members ≡ in_order x y z w a b c e
-all_in_order x y z w None None None None = refl
-all_in_order x y z w None None None (Some e) = refl
-all_in_order x y z w None None (Some c) None = refl
-all_in_order x y z w None None (Some c) (Some e) = refl
-all_in_order x y z w None (Some b) None None = refl
-all_in_order x y z w None (Some b) None (Some e) = refl
-all_in_order x y z w None (Some b) (Some c) None = refl
-all_in_order x y z w None (Some b) (Some c) (Some e) = refl
-all_in_order x y z w (Some a) None None None = refl
-all_in_order x y z w (Some a) None None (Some e) = refl
-all_in_order x y z w (Some a) None (Some c) None = refl
-all_in_order x y z w (Some a) None (Some c) (Some e) = refl
-all_in_order x y z w (Some a) (Some b) None None = refl
-all_in_order x y z w (Some a) (Some b) None (Some e) = refl
-all_in_order x y z w (Some a) (Some b) (Some c) None = refl
-all_in_order x y z w (Some a) (Some b) (Some c) (Some e) = refl
+-- in whichever order they were put, and put one after the other in this order
+pub put_in_order : (x y z w : Data) (a b c e : Option Data)
+    → (put_some (codes "vlan") e (put_some (codes "strip") c (put_some (codes "set") b (put_some (codes "in_port") a
+    (put (codes "switch") w (put (codes "priority") z (put (codes "out") y (put (codes "dst") x no_members))))))) ≡ in_order x y z w a b c e)
+    × (put_all (in_order x y z w a b c e) no_members ≡ in_order x y z w a b c e)
+put_in_order x y z w None None None None = (refl, refl)
+put_in_order x y z w None None None (Some e) = (refl, refl)
+put_in_order x y z w None None (Some c) None = (refl, refl)
+put_in_order x y z w None None (Some c) (Some e) = (refl, refl)
+put_in_order x y z w None (Some b) None None = (refl, refl)
+put_in_order x y z w None (Some b) None (Some e) = (refl, refl)
+put_in_order x y z w None (Some b) (Some c) None = (refl, refl)
+put_in_order x y z w None (Some b) (Some c) (Some e) = (refl, refl)
+put_in_order x y z w (Some a) None None None = (refl, refl)
+put_in_order x y z w (Some a) None None (Some e) = (refl, refl)
+put_in_order x y z w (Some a) None (Some c) None = (refl, refl)
+put_in_order x y z w (Some a) None (Some c) (Some e) = (refl, refl)
+put_in_order x y z w (Some a) (Some b) None None = (refl, refl)
+put_in_order x y z w (Some a) (Some b) None (Some e) = (refl, refl)
+put_in_order x y z w (Some a) (Some b) (Some c) None = (refl, refl)
+put_in_order x y z w (Some a) (Some b) (Some c) (Some e) = (refl, refl)
 
 -- the members of a rule
 abbrev pub rule_in_order : Network → PlanRule → Members
@@ -77,8 +60,8 @@ rule_in_order net p =
 pub rule_is : (net : Network) (p : PlanRule) → rule_members net p ≡ rule_in_order net p
 unfolding rule_members
 rule_is net p =
-    put_in_order (string (prefix_text p.rule.key.pattern.dst)) (out_tree p.rule.action) (whole_tree p.rule.key.priority) (string (name_of net p.switch))
-    (in_port_tree p.rule.key.pattern.in_port) (set_tree p.rule.action) (strip_tree p.rule.action) (test_tree p.rule.key.pattern.vlan)
+    (put_in_order (string (prefix_text p.rule.key.pattern.dst)) (out_tree p.rule.action) (whole_tree p.rule.key.priority) (string (name_of net p.switch))
+    (in_port_tree p.rule.key.pattern.in_port) (set_tree p.rule.action) (strip_tree p.rule.action) (test_tree p.rule.key.pattern.vlan)).0
 
 -- what a change does comes before the members of its rule
 pub word_is : (net : Network) (word : List ℕ) (p : PlanRule) → put (codes "do") (string word) (rule_members net p) ≡ member (codes "do") (string word) (rule_members net p)

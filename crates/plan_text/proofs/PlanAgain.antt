@@ -1,9 +1,8 @@
 -- Reading the text of a plan gives the plan.
-use Rattle.std.proofs.Common.{◌≡◌, ℕ, ◌+◌, ◌^◌, ◌<◌, ◌≤◌, List, [], ◌∷◌, ◌++◌, length, map, sum_by, codes, Some, Ok, refl, ap, ◌∙◌, arith}
+use Rattle.std.proofs.Common.{◌≡◌, ℕ, ◌+◌, ◌^◌, ◌<◌, ◌≤◌, List, [], ◌∷◌, ◌++◌, length, sum_by, Some, Ok, refl, ap, ◌∙◌, arith}
 use Rattle.std.specs.List.{AllByRecursion}
 use Rattle.std.proofs.lemmas.List.Sums.{sum_by-append}
-use Rattle.serde_json.specs.Data.{string, object, Members}
-use Rattle.serde_json.specs.Find.{get_member}
+use Rattle.serde_json.specs.Data.{object, Members}
 use Rattle.net_base.specs.Members.{IsDistinct}
 use Rattle.flat_json.specs.JsonTree.{tree_in}
 use Rattle.net_base.specs.declared.field.Field.TheVariants as field
@@ -13,7 +12,6 @@ use Rattle.json.specs.Print.{print}
 use Rattle.json.specs.Written.{Written}
 use Rattle.std.specs.Str.{IsUtf8}
 use Rattle.topology.specs.Networks.{Network, IsNetwork, switch_count}
-use Rattle.config_files.specs.RuleTrees.{whole_tree, list_tree}
 use Rattle.plan_text.specs.Tokens.{tokens_of, before_count, Adds}
 use Rattle.plan_text.proofs.Order.{ordered_is, two_phase_is}
 use Rattle.plan_text.proofs.Shallow.{plan_flat}
@@ -28,7 +26,7 @@ use Rattle.certificates.specs.declared.Plan.{Plan}
 use Rattle.certificates.specs.Valid.{IsValidOrdered, IsValidTwoPhase, IsValidEvidence, IsValidPlan}
 use Rattle.plan_format.specs.Evidence.{uses_and_picks_in}
 use Rattle.plan_format.specs.Plans.{spelling_in, ordered_in, two_phase_in, evidence_in, plan_at, plan_in}
-use Rattle.plan_text.specs.PlanText.{numbers_tree, rule_tree, use_tree, pick_tree, table_tree, label_pick_tree, numbered_rounds_tree, with_evidence, plan_members, plan_tree, used_rules, tried_of, rules_once, rules_of}
+use Rattle.plan_text.specs.PlanText.{with_evidence, plan_members, plan_tree, used_rules, tried_of, rules_once, rules_of}
 use Rattle.plan_format.specs.declared.rules.PlanRule.{PlanRule}
 use Rattle.plan_text.proofs.ChangesAgain.{IsInRange, HasNumber, rules_again, rounds_again}
 use Rattle.plan_text.proofs.EvidenceAgain.{numberings_again, befores_again, uses_again, picks_again, labels_again, label_picks_again}
@@ -50,98 +48,34 @@ module _ (net : Network) (rules : List PlanRule) (rounds : List (List Change)) (
     abbrev ordered : Plan
     ordered = record { rounds = rounds; evidence = Ordered e }
 
-    ordered_format : get_member (codes "format") (plan_members net rules ordered) ≡ Some (whole_tree 2)
-    unfolding plan_members with_evidence
-    ordered_format = refl
-
-    ordered_kind : get_member (codes "kind") (plan_members net rules ordered) ≡ Some (string (codes "ordered"))
-    unfolding plan_members with_evidence
-    ordered_kind = refl
-
-    ordered_rules : get_member (codes "rules") (plan_members net rules ordered) ≡ Some (list_tree (map (rule_tree net) rules))
-    unfolding plan_members with_evidence
-    ordered_rules = refl
-
-    ordered_rounds : get_member (codes "rounds") (plan_members net rules ordered) ≡ Some (numbered_rounds_tree rules rounds)
-    unfolding plan_members with_evidence
-    ordered_rounds = refl
-
-    ordered_numberings : get_member (codes "numberings") (plan_members net rules ordered) ≡ Some (list_tree (map numbers_tree e.numberings))
-    unfolding plan_members with_evidence
-    ordered_numberings = refl
-
-    ordered_befores : get_member (codes "befores") (plan_members net rules ordered) ≡ Some (list_tree (map numbers_tree e.befores))
-    unfolding plan_members with_evidence
-    ordered_befores = refl
-
-    ordered_uses : get_member (codes "uses") (plan_members net rules ordered) ≡ Some (list_tree (map use_tree e.uses))
-    unfolding plan_members with_evidence
-    ordered_uses = refl
-
-    ordered_picks : get_member (codes "picks") (plan_members net rules ordered) ≡ Some (list_tree (map pick_tree e.picks))
-    unfolding plan_members with_evidence
-    ordered_picks = refl
-
     ordered_again : IsValidOrdered net (length rounds) e → plan_at net (object (plan_members net rules ordered)) ≡ Ok ordered
-    unfolding plan_at spelling_in evidence_in ordered_in uses_and_picks_in
+    unfolding plan_at spelling_in evidence_in ordered_in uses_and_picks_in plan_members with_evidence
     ordered_again h =
         let ms : Members = plan_members net rules ordered in
         rw (
-          ordered_format,
-          ordered_kind,
-          rules_again net ms rules ordered_rules distinct serves.few serves.in_range,
-          rounds_again net rules field.Rounds 4200 0 ms rounds ordered_rounds serves.few_rounds (omega (arith, serves.few_changes)) serves.numbered,
-          numberings_again net ms e.numberings ordered_numberings h.numberings,
-          befores_again net ms e.befores ordered_befores h.befores,
-          uses_again (length e.numberings) (length e.befores) ms e.uses ordered_uses h.uses,
-          picks_again (length rounds) (length e.uses) ms e.picks ordered_picks h.picks h.ascending,
+          rules_again net ms rules refl distinct serves.few serves.in_range,
+          rounds_again net rules field.Rounds 4200 0 ms rounds refl serves.few_rounds (omega (arith, serves.few_changes)) serves.numbered,
+          numberings_again net ms e.numberings refl h.numberings,
+          befores_again net ms e.befores refl h.befores,
+          uses_again (length e.numberings) (length e.befores) ms e.uses refl h.uses,
+          picks_again (length rounds) (length e.uses) ms e.picks refl h.picks h.ascending,
         ) refl
 
   module _ (e : TwoPhaseEvidence) where
     abbrev two_phase : Plan
     two_phase = record { rounds = rounds; evidence = TwoPhase e }
 
-    two_phase_format : get_member (codes "format") (plan_members net rules two_phase) ≡ Some (whole_tree 2)
-    unfolding plan_members with_evidence
-    two_phase_format = refl
-
-    two_phase_kind : get_member (codes "kind") (plan_members net rules two_phase) ≡ Some (string (codes "two-phase"))
-    unfolding plan_members with_evidence
-    two_phase_kind = refl
-
-    two_phase_rules : get_member (codes "rules") (plan_members net rules two_phase) ≡ Some (list_tree (map (rule_tree net) rules))
-    unfolding plan_members with_evidence
-    two_phase_rules = refl
-
-    two_phase_rounds : get_member (codes "rounds") (plan_members net rules two_phase) ≡ Some (numbered_rounds_tree rules rounds)
-    unfolding plan_members with_evidence
-    two_phase_rounds = refl
-
-    two_phase_labels : get_member (codes "labels") (plan_members net rules two_phase) ≡ Some (list_tree (map table_tree e.labels))
-    unfolding plan_members with_evidence
-    two_phase_labels = refl
-
-    two_phase_picks : get_member (codes "picks") (plan_members net rules two_phase) ≡ Some (list_tree (map label_pick_tree e.picks))
-    unfolding plan_members with_evidence
-    two_phase_picks = refl
-
-    two_phase_tried : get_member (codes "tried") (plan_members net rules two_phase) ≡ Some (numbered_rounds_tree rules e.tried)
-    unfolding plan_members with_evidence
-    two_phase_tried = refl
-
     two_phase_again : IsValidTwoPhase net (length rounds) (sum_by length rounds) e → AllByRecursion (AllByRecursion (HasNumber rules)) e.tried
         → plan_at net (object (plan_members net rules two_phase)) ≡ Ok two_phase
-    unfolding plan_at spelling_in evidence_in two_phase_in
+    unfolding plan_at spelling_in evidence_in two_phase_in plan_members with_evidence
     two_phase_again h tried =
         let ms : Members = plan_members net rules two_phase in
         rw (
-          two_phase_format,
-          two_phase_kind,
-          rules_again net ms rules two_phase_rules distinct serves.few serves.in_range,
-          rounds_again net rules field.Rounds 4200 0 ms rounds two_phase_rounds serves.few_rounds (omega (arith, serves.few_changes)) serves.numbered,
-          labels_again ms e.labels two_phase_labels h.labels,
-          label_picks_again (length rounds) (length e.labels) ms e.picks two_phase_picks h.picks h.ascending,
-          rounds_again net rules field.Tried 4096 (sum_by length rounds) ms e.tried two_phase_tried h.few_tried h.few_changes tried,
+          rules_again net ms rules refl distinct serves.few serves.in_range,
+          rounds_again net rules field.Rounds 4200 0 ms rounds refl serves.few_rounds (omega (arith, serves.few_changes)) serves.numbered,
+          labels_again ms e.labels refl h.labels,
+          label_picks_again (length rounds) (length e.labels) ms e.picks refl h.picks h.ascending,
+          rounds_again net rules field.Tried 4096 (sum_by length rounds) ms e.tried refl h.few_tried h.few_changes tried,
         ) refl
 
   evidence_again : (e : Evidence) → IsValidEvidence net (length rounds) (sum_by length rounds) e → AllByRecursion (AllByRecursion (HasNumber rules)) (tried_of e)

@@ -39,7 +39,7 @@ use Rattle.certificates.specs.Valid.{IsValidNumbering, IsValidBefore, IsValidUse
 use Rattle.plan_format.specs.declared.rules.PlanRule.{PlanRule}
 use Rattle.plan_text.specs.PlanText.{numbers_tree, name_of, set_tree, strip_tree, rule_members, rule_tree, plan_rule_eq, plan_rule_of, rule_number, word_of, numbered_change_tree, numbered_round_tree, numbered_rounds_tree, use_tree, pick_tree, vlan_tree, version_text, label_tree, table_tree, label_pick_tree}
 use Rattle.plan_text.specs.Tokens.{tokens_of, ordered_members, two_phase_members, Adds}
-use Rattle.plan_text.proofs.Order.{member_if, in_order, put_all, all_in_order, rule_in_order, rule_is}
+use Rattle.plan_text.proofs.Order.{member_if, in_order, put_all, put_in_order, rule_in_order, rule_is}
 use Rattle.plan_text.proofs.ChangesAgain.{IsInRange}
 use Rattle.net_base.specs.Switches.{most_switches}
 
@@ -149,7 +149,7 @@ rule_read net p h =
     (whole_read p.rule.key.priority (omega (arith, h.priority_most))) (text_read (name_of net p.switch)) (in_port_read p.rule.key.pattern.in_port h.port)
     (set_read p.rule.action h.action) (strip_read p.rule.action) (test_read p.rule.key.pattern.vlan h.vlan) in
     let all : of_members (members_outline (rule_in_order net p)) no_members ≡ Some (rule_in_order net p) =
-    members_read (rule_in_order net p) no_members each ∙ ap (λ (ms : Members). Some ms) (all_in_order dst out priority name in_port set strip vlan_test) in
+    members_read (rule_in_order net p) no_members each ∙ ap (λ (ms : Members). Some ms) (put_in_order dst out priority name in_port set strip vlan_test).1 in
     object_read (rule_members net p) (rw (rule_is net p) all)
 
 -- ---- changes by the numbers of their rules
