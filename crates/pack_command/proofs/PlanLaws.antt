@@ -6,9 +6,8 @@ use Rattle.net_base.proofs.ItemLaws.{in_from_get}
 use Rattle.topology.specs.Networks.{IsNetwork, capacity_of}
 use Rattle.flow_rules.specs.declared.rules.Rule.{Rule}
 use Rattle.path_walk.specs.UserConfigs.{IsUserConfig}
-use Rattle.dest_classes.specs.Classes.{ClassList, IsClass, class_count}
+use Rattle.dest_classes.specs.Classes.{IsClass, class_count}
 use Rattle.dest_classes.specs.declared.Class.{Class}
-use Rattle.demands.specs.Duties.{ClassDuties}
 use Rattle.demands.specs.Good.{HasGoodPaths}
 use Rattle.update_model.specs.Changes.{round_after}
 use Rattle.update_model.specs.Mixtures.{Rollout, tables_before}
@@ -25,7 +24,6 @@ use Rattle.check_reasons.specs.Passed.{ChangesPass}
 use Rattle.check_reasons.specs.Reasons.{IsCommonReason, HasRewrite, class_duties, old_breaks, new_breaks, bad_change, ambiguous, over_capacity, wrong_end}
 use Rattle.check_reasons.specs.declared.reason.Reason.{Reason}
 use Rattle.evidence_store.specs.Stored.{no_evidence}
-use Rattle.table_difference.specs.Targets.{Target}
 use Rattle.packed_rounds.specs.Packing.{PacksOrdered}
 use Rattle.packed_rounds.proofs.Packed.{never_more}
 use Rattle.plan_checker.proofs.Refuted.{break_refuted, within_rounds, bad_change_refuted, unclear_refuted, need_fits, rewrite_refuted}
@@ -37,17 +35,10 @@ use Rattle.round_planner.specs.Updates.{update_classes, update_count, update_tar
 use Rattle.round_planner.proofs.ClassKept.{class_kept, same_classes_back}
 use Rattle.round_planner.proofs.SameRound.{IsSameRound, same_back, held_same, need_same, safe_same}
 use Rattle.table_difference.specs.SameClasses.{HasSameClasses, MakeNoClasses}
-use Rattle.plan_command.specs.Planned.{BothEndsAreGood}
+use Rattle.plan_command.specs.Ends.{BothEndsAreGood}
 use Rattle.plan_command.proofs.UpdateAnswers.{count_same}
 use Rattle.command_base.specs.Judgements.{most_classes}
 use Rattle.pack_command.proofs.StandLaws.{IsStanding, tables_of_user, keeps_round, standing_at, ends_at_new, changes_few, remaining_few, ranges, no_prefix}
-
--- what rounds are packed for, for the duties and the classes that were made
-pub target_is : (u : Update) (duties : ClassDuties) (classes : ClassList) → duties ≡ record { demands = u.demands; classes = classes } → classes ≡ update_classes u
-    → (let to : Target = record { net = u.net; new = u.new; demands = duties.demands; classes = duties.classes } in to) ≡ update_target u
-target_is u duties classes made are =
-    ap (λ (d : ClassDuties). let to : Target = record { net = u.net; new = u.new; demands = d.demands; classes = d.classes } in to) made
-    ∙ ap (λ (cs : ClassList). let to : Target = record { net = u.net; new = u.new; demands = u.demands; classes = cs } in to) are
 
 module _ (u : Update) (old_user : IsUserConfig u.net u.old) (new_user : IsUserConfig u.net u.new) (p : Plan) (packed : PacksOrdered (update_target u) u.old p.rounds) where
   abbrev t : Task

@@ -1,5 +1,5 @@
 -- How the packing of an update of destination trees ends.
-use Rattle.std.proofs.Common.{◌⊎◌, ℕ, ◌+◌, ◌≤◌, List, length, inl, inr}
+use Rattle.std.proofs.Common.{ℕ, ◌+◌, ◌≤◌, List, length, inl, inr}
 use Rattle.topology.specs.Networks.{IsNetwork}
 use Rattle.path_walk.specs.UserConfigs.{IsUserConfig}
 use Rattle.update_model.specs.declared.Change.{Change}
@@ -12,7 +12,7 @@ use Rattle.packed_trees.specs.TreeUpdates.{IsUserTreeUpdate, task_target}
 use Rattle.round_planner.specs.Updates.{bare_task}
 use Rattle.command_base.specs.Answers.{Answer}
 use Rattle.pack_command.specs.Chosen.{IsPackingStuck, IsOrderedPlan, IsPackPlan}
-use Rattle.pack_command.specs.Packed.{SaysPackPlan, SaysNoPlan, PacksInFewRounds}
+use Rattle.pack_command.specs.Packed.{SaysChosen, PacksInFewRounds}
 
 -- the packing of such an update isn't stuck
 abbrev pub TreesAreNeverStuck : Type 0
@@ -41,6 +41,6 @@ module _ (never : TreesAreNeverStuck) (take_few : TreesTakeFew) (u : Update) (ne
   plan_in_few p (inr (inr only)) = absurd (not_stuck only.none.packing)
 
   -- an answer that says a plan, or why there is none, says that packing ended so
-  pub packs_in_few : (answer : Answer) → SaysPackPlan u answer ⊎ SaysNoPlan u answer → PacksInFewRounds u
-  packs_in_few answer (inl v) = plan_in_few v.plan v.is_pack
+  pub packs_in_few : (answer : Answer) → SaysChosen u answer → PacksInFewRounds u
+  packs_in_few answer (inl v) = plan_in_few v.plan v.which
   packs_in_few answer (inr v) = absurd (not_stuck v.packing)

@@ -2,15 +2,18 @@
 use Rattle.std.specs.Prelude.{◌≡◌, ◌⊎◌, ℕ, ◌+◌, ◌*◌, ◌<◌, ◌≤◌, List, [], length}
 use Rattle.update_model.specs.declared.Change.{Change}
 use Rattle.certificates.specs.Updates.{Update, task_for, rollout}
+use Rattle.certificates.specs.Certified.{IsCertified, classes_for}
+use Rattle.certificates.specs.Valid.{IsValidPlan}
 use Rattle.certificates.specs.declared.Evidence.TheVariants.{Ordered}
 use Rattle.certificates.specs.declared.OrderedEvidence.{OrderedEvidence}
 use Rattle.certificates.specs.declared.Plan.{Plan}
+use Rattle.evidence_store.specs.Stored.{no_evidence}
 use Rattle.packed_rounds.specs.Packing.{PacksOrdered, PacksStuck}
 use Rattle.round_judge.specs.Evidence.{IsSearchEvidence}
+use Rattle.round_certifier.specs.Standing.{target_for}
 use Rattle.round_planner.specs.Ends.{IsPlanOf, AreStuck}
-use Rattle.round_planner.specs.declared.Ordered.{Ordered as Search}
-use Rattle.round_planner.specs.declared.Ordered.TheVariants as search
-use Rattle.round_planner.specs.Updates.{update_target}
+use Rattle.round_planner.specs.Updates.{update_classes, update_target}
+use Rattle.table_difference.specs.SameClasses.{HasSameClasses}
 use Rattle.two_phase.specs.Laws.{FitsTwoPhase}
 use Rattle.two_phase.specs.Depths.{depth_plan, depth_count}
 
@@ -20,6 +23,19 @@ pub record IsPackedPlan (u : Update) (p : Plan) : Type 0 where
   pub evidence : OrderedEvidence
   pub evidence_is : p.evidence ≡ Ordered evidence
   pub searched : IsSearchEvidence (update_target u) (rollout (task_for u p)) evidence
+
+-- the plan has packed rounds after which nothing remains, and no evidence; it is valid, and has the classes of the update
+pub record IsBarePacked (u : Update) (p : Plan) : Type 0 where
+  pub packed : PacksOrdered (update_target u) u.old p.rounds
+  pub bare : p.evidence ≡ Ordered no_evidence
+  pub valid : IsValidPlan u.net p
+  pub classes : HasSameClasses (classes_for (task_for u p)) (update_classes u)
+
+-- the evidence is that which the search makes for the rounds of the plan, which it certifies
+pub record IsEvidenceFor (u : Update) (p : Plan) (e : OrderedEvidence) : Type 0 where
+  pub searched : IsSearchEvidence (target_for (task_for u p)) (rollout (task_for u p)) e
+  pub certified : IsCertified (task_for u p) (Ordered e)
+  pub valid : IsValidPlan u.net (record { rounds = p.rounds; evidence = Ordered e })
 
 -- packing ends stuck
 pub record IsPackingStuck (u : Update) : Type 0 where
@@ -34,11 +50,6 @@ IsOrderedPlan u p = IsPackedPlan u p ⊎ (IsPackingStuck u × IsPlanOf (update_t
 pub record HasNoOrderedPlan (u : Update) (tried : List (List Change)) : Type 0 where
   pub packing : IsPackingStuck u
   pub search : AreStuck (update_target u) u.old tried
-
--- the ordered plan if there is one, otherwise the rounds after which the search is stuck
-abbrev pub IsFound : Update → Search → Type 0
-IsFound u (search.Rounds plan) = IsOrderedPlan u plan
-IsFound u (search.Stuck tried) = HasNoOrderedPlan u tried
 
 -- the plan of two phases by depth, with the rounds that were tried before
 abbrev pub phased_plan : Update → List (List Change) → Plan

@@ -1,6 +1,5 @@
 -- What the files of `pack` mean, and what follows from it.
-use Rattle.std.specs.Prelude.{◌≡◌, ◌⊎◌, ℕ, List, [], ◌∷◌, ◌++◌, Ok, Option}
-use Rattle.std.specs.Io.KnownBytes.{Appends}
+use Rattle.std.specs.Prelude.{◌⊎◌, List, [], ◌∷◌, ◌++◌}
 use Rattle.file_access.specs.Outside.{Files}
 use Rattle.net_base.specs.Members.{IsIn}
 use Rattle.flow_rules.specs.declared.rules.Rule.{Rule}
@@ -8,16 +7,13 @@ use Rattle.update_model.specs.Changes.{tables_after}
 use Rattle.update_model.specs.Remaining.{remaining_changes}
 use Rattle.update_model.specs.declared.Change.{Change}
 use Rattle.certificates.specs.Updates.{Update}
-use Rattle.certificates.specs.declared.Plan.{Plan}
-use Rattle.plan_format.specs.Plans.{plan_in}
-use Rattle.plan_text.specs.PlanText.{plan_text}
 use Rattle.table_difference.specs.Targets.{Target}
 use Rattle.packed_rounds.specs.Packing.{CanStand, PacksOrdered}
 use Rattle.two_phase.specs.Laws.{FitsTwoPhase}
 use Rattle.command_base.specs.Names.{UpdateNames}
-use Rattle.plan_command.specs.NewPlans.{FilesMeanGoodEnds, FilesLackTags, FilesLackRoom, IsOrdered}
+use Rattle.plan_command.specs.NewPlans.{FilesHave, FilesLackTags, FilesLackRoom, IsOrdered}
 use Rattle.round_planner.specs.Updates.{update_target}
-use Rattle.pack_command.specs.Chosen.{IsPackingStuck, IsPackPlan}
+use Rattle.pack_command.specs.Chosen.{IsPackingStuck}
 
 -- packing ends ordered
 pub record IsPackingOrdered (u : Update) : Type 0 where
@@ -33,10 +29,8 @@ abbrev pub HasPackPlan : Update → Type 0
 HasPackPlan u = EndsInOrder u ⊎ FitsTwoPhase u.net u.old u.new
 
 -- the files mean an update with good ends that has a plan
-pub record FilesHavePackPlan (files : Files) (names : UpdateNames) : Type 0 where
-  pub update : Update
-  pub mean : FilesMeanGoodEnds files names update
-  pub packed : HasPackPlan update
+abbrev pub FilesHavePackPlan : Files → UpdateNames → Type 0
+FilesHavePackPlan files names = FilesHave HasPackPlan files names
 
 -- the files lack tags for two phases where the search ends stuck, and packing does too
 pub record FilesPackNoTags (files : Files) (names : UpdateNames) : Type 0 where
@@ -47,13 +41,6 @@ pub record FilesPackNoTags (files : Files) (names : UpdateNames) : Type 0 where
 pub record FilesPackNoRoom (files : Files) (names : UpdateNames) : Type 0 where
   pub lack : FilesLackRoom files names
   pub packing : IsPackingStuck lack.update
-
--- the text of the chosen plan was written, and reading it gives this plan
-pub record WritesPackPlan (u : Update) (old new : Option (List ℕ)) : Type 0 where
-  pub plan : Plan
-  pub is_pack : IsPackPlan u plan
-  pub means : plan_in u.net (plan_text u.net plan) ≡ Ok plan
-  pub written : Appends old new (plan_text u.net plan)
 
 -- each round is full: no change that remains before it and isn't in it can stand in it besides
 abbrev pub AreFull : Target → List (List Rule) → List (List Change) → Type 0

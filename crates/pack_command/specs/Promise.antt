@@ -22,8 +22,9 @@ use Rattle.command_base.specs.Updates.{FilesMeanUpdate, WritesPlan}
 use Rattle.command_base.specs.Runs.{IsComplete}
 use Rattle.check_base.specs.Checks.{FilesAreCertified}
 use Rattle.plan_command.specs.NoPlanLines as lines
-use Rattle.plan_command.specs.NewPlans.{FilesHavePlan, FilesMeanTrees, RefusesBadEnds, HoldBeside}
-use Rattle.pack_command.specs.PackFiles.{IsPackingOrdered, EndsInOrder, FilesHavePackPlan, FilesPackNoTags, FilesPackNoRoom, WritesPackPlan, AreFull}
+use Rattle.plan_command.specs.NewPlans.{FilesHavePlan, FilesMeanTrees, RefusesBadEnds, HoldBeside, WritesPlanOf}
+use Rattle.pack_command.specs.Chosen.{IsPackPlan}
+use Rattle.pack_command.specs.PackFiles.{IsPackingOrdered, EndsInOrder, FilesHavePackPlan, FilesPackNoTags, FilesPackNoRoom, AreFull}
 
 -- the files and their names, what was written before and after the run, and how it ended
 pub record PackPromise (files : Files) (names : UpdateNames) (old new : Option (List ℕ)) (result : Status) : Type 0 where
@@ -34,7 +35,7 @@ pub record PackPromise (files : Files) (names : UpdateNames) (old new : Option (
   pub wherever : IsComplete result → FilesHavePlan files names → result ≡ status.Done
   -- Then the text of the chosen plan was written: the packed one, or where packing ends stuck that of the search, or that of two phases
   -- where it has fewer rounds or is the only one. Reading it gives this plan.
-  pub writes : (u : Update) → FilesMeanUpdate files names u → result ≡ status.Done → WritesPackPlan u old new
+  pub writes : (u : Update) → FilesMeanUpdate files names u → result ≡ status.Done → WritesPlanOf IsPackPlan u old new
   -- The plan that was written is certified, and so it keeps each packet's trace good in every state of every run.
   pub keeps : (before : List ℕ) (u : Update) (p : Plan) → old ≡ Some before → result ≡ status.Done → FilesMeanUpdate files names u → WritesPlan u.net p old new → KeepsConsistent u p
   -- Where what was written has no more bytes than a plan may have, `check` over the same files and this text says Done.

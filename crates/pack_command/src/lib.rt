@@ -3,7 +3,6 @@
 
 mod command;
 pub mod laws;
-mod ordering;
 mod packing;
 mod phasing;
 mod replies;

@@ -3,22 +3,19 @@ ghost use Rattle.std.specs.Prelude.{◌≡◌, ◌≤◌, IfOk};
 ghost use Rattle.flow_rules.specs.Tables.{rules_of_all};
 ghost use Rattle.path_walk.specs.UserConfigs.{IsUserConfig};
 ghost use Rattle.topology.specs.Networks.{IsNetwork};
-ghost use Rattle.update_model.specs.declared.Change.{Change};
 ghost use Rattle.certificates.specs.Certified.{IsCertified, classes_for};
-ghost use Rattle.certificates.specs.Updates.{task_for, rollout};
+ghost use Rattle.certificates.specs.Updates.{task_for};
 ghost use Rattle.certificates.specs.Valid.{IsValidPlan};
 ghost use Rattle.certificates.specs.declared.Evidence.TheVariants.{Ordered};
 ghost use Rattle.evidence_store.specs.Stored.{no_evidence};
 ghost use Rattle.packed_rounds.specs.Packing.{PacksOrdered};
 ghost use Rattle.plan_checker.specs.Fits.{Fits};
-ghost use Rattle.round_judge.specs.Evidence.{IsSearchEvidence};
-ghost use Rattle.round_certifier.specs.Standing.{target_for};
 ghost use Rattle.round_planner.specs.Updates.{update_classes, update_count, update_target};
-ghost use Rattle.table_difference.specs.SameClasses.{HasSameClasses, MakeNoClasses};
+ghost use Rattle.table_difference.specs.SameClasses.{HasSameClasses};
 ghost use Rattle.command_base.specs.Updates.{meaning_of};
 ghost use Rattle.command_base.specs.Judgements.{most_classes};
-ghost use Rattle.plan_command.specs.Planned.{BothEndsAreGood};
-ghost use Rattle.pack_command.specs.Chosen.{IsPackedPlan};
+ghost use Rattle.plan_command.specs.Ends.{BothEndsAreGood};
+ghost use Rattle.pack_command.specs.Chosen.{IsBarePacked, IsEvidenceFor, IsPackedPlan};
 
 use certificates::{Evidence, OrderedEvidence, Plan};
 use check_reasons::Case;
@@ -26,7 +23,7 @@ use command_base::UpdateFiles;
 use net_base::{ListOf, Memory};
 use plan_checker::CheckRoom;
 use plan_verdict::{PlanRoom, plan_room};
-use round_certifier::{CertifyFault, certify};
+use round_certifier::{CertifyFault, certify, with_evidence};
 use std::alloc::Global;
 use table_difference::classes::rounds_make_no_classes;
 use update_model::Rounds;
@@ -53,21 +50,10 @@ fn certify_packed(
     requires net { IsNetwork files.now.net }
     requires old { IsUserConfig files.now.net (rules_of_all files.now.old) }
     requires new { IsUserConfig files.now.net (rules_of_all files.now.new) }
-    requires valid { IsValidPlan files.now.net plan.now }
-    requires bare { plan.now.evidence ≡ Ordered no_evidence }
-    requires packed { PacksOrdered (update_target (meaning_of files.now))
-        (rules_of_all files.now.old) plan.now.rounds }
+    requires plan { IsBarePacked (meaning_of files.now) plan.now }
     requires good { BothEndsAreGood (meaning_of files.now) }
-    requires classes { HasSameClasses (classes_for (task_for (meaning_of files.now) plan.now))
-        (update_classes (meaning_of files.now)) }
     requires fits { Fits (task_for (meaning_of files.now) plan.now) room.old }
-    ensures searched { IfOk result
-        (IsSearchEvidence (target_for (task_for (meaning_of files.now) plan.now))
-        (rollout (task_for (meaning_of files.now) plan.now))) }
-    ensures certified { IfOk result (λ e.
-        IsCertified (task_for (meaning_of files.now) plan.now) (Ordered e)) }
-    ensures valid { IfOk result (λ e. IsValidPlan files.now.net
-        (record { rounds = plan.now.rounds; evidence = Ordered e })) }
+    ensures { IfOk result (IsEvidenceFor (meaning_of files.now) plan.now) }
 {
     let case = Case {
         net: &files.net,
@@ -92,21 +78,10 @@ fn packed_evidence(
     requires net { IsNetwork files.now.net }
     requires old { IsUserConfig files.now.net (rules_of_all files.now.old) }
     requires new { IsUserConfig files.now.net (rules_of_all files.now.new) }
-    requires valid { IsValidPlan files.now.net plan.now }
-    requires bare { plan.now.evidence ≡ Ordered no_evidence }
-    requires packed { PacksOrdered (update_target (meaning_of files.now))
-        (rules_of_all files.now.old) plan.now.rounds }
+    requires plan { IsBarePacked (meaning_of files.now) plan.now }
     requires good { BothEndsAreGood (meaning_of files.now) }
-    requires classes { HasSameClasses (classes_for (task_for (meaning_of files.now) plan.now))
-        (update_classes (meaning_of files.now)) }
     requires few { update_count (meaning_of files.now) ≤ most_classes }
-    ensures searched { IfOk result
-        (IsSearchEvidence (target_for (task_for (meaning_of files.now) plan.now))
-        (rollout (task_for (meaning_of files.now) plan.now))) }
-    ensures certified { IfOk result (λ e.
-        IsCertified (task_for (meaning_of files.now) plan.now) (Ordered e)) }
-    ensures valid { IfOk result (λ e. IsValidPlan files.now.net
-        (record { rounds = plan.now.rounds; evidence = Ordered e })) }
+    ensures { IfOk result (IsEvidenceFor (meaning_of files.now) plan.now) }
 {
     match plan_room(alloc, files, plan)? {
         PlanRoom::Made(mut room) => {
@@ -115,21 +90,6 @@ fn packed_evidence(
             evidence
         }
         PlanRoom::TooMany(_) => unreachable!(),
-    }
-}
-
-/// The plan with other evidence.
-fn with_evidence(plan: Plan, evidence: OrderedEvidence) -> Plan
-    ensures { result ≡ record { rounds = plan.rounds; evidence = Ordered evidence } }
-{
-    let Plan {
-        rounds,
-        evidence: given,
-    } = plan;
-    drop(given);
-    Plan {
-        rounds,
-        evidence: Evidence::Ordered(evidence),
     }
 }
 

@@ -1,5 +1,5 @@
 //! The plan of two phases, and which of two plans is written.
-ghost use Rattle.std.specs.Prelude.{◌≡◌, ◌⊎◌, [], length, IfOk, IfErr};
+ghost use Rattle.std.specs.Prelude.{◌≡◌, [], length, IfOk, IfErr};
 ghost use Rattle.flow_rules.specs.Tables.{rules_of_all};
 ghost use Rattle.path_walk.specs.UserConfigs.{IsUserConfig};
 ghost use Rattle.certificates.specs.Certified.{IsCertified, classes_for};
@@ -13,15 +13,16 @@ ghost use Rattle.two_phase.specs.Plans.{IsTwoCause};
 ghost use Rattle.command_base.specs.Updates.{meaning_of};
 ghost use Rattle.command_base.specs.Replies.{answer_of};
 ghost use Rattle.upgrade_command.specs.Texts.{SaysPlan};
-ghost use Rattle.plan_command.specs.Planned.{BothEndsAreGood};
+ghost use Rattle.plan_command.specs.Ends.{BothEndsAreGood};
+ghost use Rattle.plan_command.specs.Planned.{SaysPlanOf};
 ghost use Rattle.pack_command.specs.Chosen.{IsOrderedPlan, HasNoOrderedPlan, IsPackPlan, phased_plan, phased_count};
-ghost use Rattle.pack_command.specs.Packed.{SaysPackPlan, SaysNoPlan};
+ghost use Rattle.pack_command.specs.Packed.{SaysChosen};
 
 use certificates::Plan;
 use certificates::laws::certified_consistent;
 use command_base::{Reply, UpdateFiles};
 use net_base::Memory;
-use plan_command::{too_few_reply, too_small_reply};
+use plan_command::no_plan_reply;
 use std::alloc::Global;
 use two_phase::laws::depth_rounds_count;
 use two_phase::{TwoFault, two_phase_by_depth};
@@ -63,7 +64,7 @@ fn chosen_reply(alloc: Global, files: &UpdateFiles, plan: &Plan) -> Result<Reply
     requires certified { IsCertified (task_for (meaning_of files.now) plan.now) plan.now.evidence }
     requires classes { HasSameClasses (classes_for (task_for (meaning_of files.now) plan.now))
         (update_classes (meaning_of files.now)) }
-    ensures chosen { IfOk result (λ r. SaysPackPlan (meaning_of files.now) (answer_of r)) }
+    ensures chosen { IfOk result (λ r. SaysPlanOf IsPackPlan (meaning_of files.now) (answer_of r)) }
     ensures says { IfOk result (λ r. SaysPlan files.now.net plan.now (answer_of r)) }
 {
     certified_consistent(&files.net, &files.old, &files.new, &files.demands, plan);
@@ -94,7 +95,7 @@ fn shorter_reply(
     requires other_classes { HasSameClasses
         (classes_for (task_for (meaning_of files.now) phased.now))
         (update_classes (meaning_of files.now)) }
-    ensures { IfOk result (λ r. SaysPackPlan (meaning_of files.now) (answer_of r)) }
+    ensures { IfOk result (λ r. SaysPlanOf IsPackPlan (meaning_of files.now) (answer_of r)) }
 {
     if phased.rounds.count() < plan.rounds.count() {
         chosen_reply(alloc, files, phased)
@@ -117,7 +118,7 @@ pub(crate) fn ordered_reply(
     requires certified { IsCertified (task_for (meaning_of files.now) plan.now) plan.now.evidence }
     requires classes { HasSameClasses (classes_for (task_for (meaning_of files.now) plan.now))
         (update_classes (meaning_of files.now)) }
-    ensures { IfOk result (λ r. SaysPackPlan (meaning_of files.now) (answer_of r)) }
+    ensures { IfOk result (λ r. SaysPlanOf IsPackPlan (meaning_of files.now) (answer_of r)) }
 {
     if plan.rounds.count() <= FEWEST_PHASED {
         return chosen_reply(alloc, files, plan);
@@ -144,19 +145,10 @@ pub(crate) fn stuck_reply(
     requires good { BothEndsAreGood (meaning_of files.now) }
     requires none { HasNoOrderedPlan (meaning_of files.now) tried.now }
     requires tried { AreTried files.now.net tried.now }
-    ensures { IfOk result (λ r. SaysPackPlan (meaning_of files.now) (answer_of r)
-        ⊎ SaysNoPlan (meaning_of files.now) (answer_of r)) }
+    ensures { IfOk result (λ r. SaysChosen (meaning_of files.now) (answer_of r)) }
 {
     match phase_plan(alloc, files, tried) {
         Ok(plan) => chosen_reply(alloc, files, &plan),
-        Err(TwoFault::TooFewTags { need, has }) => too_few_reply(alloc, files, tried, need, has),
-        Err(
-            TwoFault::TooSmall {
-                switch,
-                need,
-                capacity,
-            },
-        ) => too_small_reply(alloc, files, tried, switch, need, capacity),
-        Err(TwoFault::Memory) => Err(Memory),
+        Err(fault) => no_plan_reply(alloc, files, tried, fault),
     }
 }

@@ -18,7 +18,7 @@ use Rattle.command_base.specs.Answers.{Answer}
 use Rattle.command_base.specs.Judgements.{SaysWhyNot, most_classes}
 use Rattle.certificates.specs.Updates.{Update, task_for}
 use Rattle.round_planner.specs.Updates.{update_classes, update_count}
-use Rattle.plan_command.specs.Planned.{BothEndsAreGood, IsFirstBreakOf, IsEndLine}
+use Rattle.plan_command.specs.Ends.{BothEndsAreGood, IsFirstBreakOf, IsEndLine}
 
 -- two facts of a value, the second under a premise
 pub both_ok : {A E : Type 0} (r : Result A E) (P Q R : A → Type 0) (T : Type 0) → ((x : A) → P x → (T → Q x) → R x) → IfOk r P → (T → IfOk r Q) → IfOk r R

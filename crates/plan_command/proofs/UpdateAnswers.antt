@@ -1,6 +1,6 @@
 -- A run of a command that plans an update, over a source that tells: there are too many classes, an end isn't good, or it says
 -- something of an update with good ends.
-use Rattle.std.proofs.Common.{◌≡◌, ◌≢◌, ◌⊎◌, ℕ, ◌*◌, ◌<◌, ◌≤◌, List, length, Some, Ok, sym, ap, ◌∙◌, subst, inl, inr, arith}
+use Rattle.std.proofs.Common.{◌≡◌, ◌≢◌, ◌⊎◌, ◌↔◌, ℕ, ◌*◌, ◌<◌, ◌≤◌, List, length, Some, Ok, sym, ap, ◌∙◌, subst, inl, inr, arith}
 use Rattle.std.specs.declared.option.Option.{Option}
 use Rattle.std.specs.declared.result.Result.{Result}
 use Rattle.std.specs.Io.KnownBytes.{Appends}
@@ -10,8 +10,7 @@ use Rattle.topology.specs.Networks.{Network, capacity_of}
 use Rattle.flow_rules.specs.declared.rules.Rule.{Rule}
 use Rattle.dest_classes.specs.Classes.{ClassList, class_count, boundaries}
 use Rattle.update_model.specs.declared.Change.{Change}
-use Rattle.certificates.specs.Certified.{IsCertified, classes_for, is_two_phase}
-use Rattle.certificates.specs.Consistent.{IsConsistent}
+use Rattle.certificates.specs.Certified.{classes_for}
 use Rattle.certificates.specs.Trees.{IsTreeUpdate}
 use Rattle.certificates.specs.Updates.{Update, task_for}
 use Rattle.certificates.specs.declared.Plan.{Plan}
@@ -32,7 +31,7 @@ use Rattle.command_base.specs.declared.kinds.FileKind.TheVariants as kind
 use Rattle.command_base.specs.Kinds.{limit_of}
 use Rattle.command_base.specs.Names.{UpdateNames}
 use Rattle.command_base.specs.Answers.{Answer}
-use Rattle.command_base.specs.Judgements.{SaysTooMany, SaysWhyNot, most_classes}
+use Rattle.command_base.specs.Judgements.{most_classes}
 use Rattle.command_base.specs.Meanings.{IsReadAs}
 use Rattle.command_base.specs.Updates.{FilesMeanUpdate, WritesPlan}
 use Rattle.command_base.specs.Readings.{reading_update}
@@ -43,11 +42,12 @@ use Rattle.command_base.proofs.JudgementLaws.{IsAnswerOn, SaysOfGood, JudgesFile
 use Rattle.check_base.specs.Checks.{FilesAreCertified}
 use Rattle.upgrade_command.specs.Texts.{SaysPlan}
 use Rattle.plan_command.specs.NoPlanLines.{too_few_lines, too_small_lines}
-use Rattle.plan_command.specs.NewPlans.{FilesMeanGoodEnds, IsStuck, FilesLackTags, FilesLackRoom, HoldBeside}
-use Rattle.plan_command.specs.Planned.{BothEndsAreGood, IsEndLine, SaysTooFew, SaysTooSmall}
+use Rattle.plan_command.specs.NewPlans.{FilesMeanGoodEnds, FilesMeanTrees, FilesHave, FilesLackTags, FilesLackRoom, HoldBeside, WritesPlanOf}
+use Rattle.plan_command.specs.Ends.{BothEndsAreGood, IsEndLine}
+use Rattle.plan_command.specs.Planned.{SaysPlanOf, SaysTooFew, SaysTooSmall, SaysWhyNone, SaysOfGoodEnds, IsPlanAnswer}
 
 -- both ends of an update of destination trees are good
-pub tree_ends : (u : Update) → IsTreeUpdate (bare_task u) → BothEndsAreGood u
+tree_ends : (u : Update) → IsTreeUpdate (bare_task u) → BothEndsAreGood u
 tree_ends u tree = record { old_good = tree.old_good; new_good = tree.new_good }
 
 -- a search that is stuck doesn't end ordered
@@ -60,31 +60,19 @@ IsOneStuck = (to : Target) (old : List (List Rule)) (changes others : List Chang
 
 -- ---- why there is no plan
 
--- there are too few tags, or a switch is too small
-abbrev pub SaysWhyNone : Update → Answer → Type 0
-SaysWhyNone u answer = SaysTooFew u answer ⊎ SaysTooSmall u answer
-
 module _ (u : Update) (answer : Answer) where
   pub plan_status : (p : Plan) → SaysPlan u.net p answer → answer.status ≡ status.Done
   plan_status p says = status_of answer _ _ says.answer_is
 
-  pub none_not_done : SaysWhyNone u answer → answer.status ≢ status.Done
-  none_not_done (inl v) = λ is. let e = status_of answer _ _ v.answer_is in cc
-  none_not_done (inr v) = λ is. let e = status_of answer _ _ v.answer_is in cc
+  none_other : (s : Status) → s ≢ status.TooFewTags → s ≢ status.TooSmall → SaysWhyNone u answer → answer.status ≢ s
+  none_other s few small (inl v) = λ is. few (sym is ∙ status_of answer _ _ v.answer_is)
+  none_other s few small (inr v) = λ is. small (sym is ∙ status_of answer _ _ v.answer_is)
 
-  pub none_not_refused : SaysWhyNone u answer → answer.status ≢ status.Refused
-  none_not_refused (inl v) = λ is. let e = status_of answer _ _ v.answer_is in cc
-  none_not_refused (inr v) = λ is. let e = status_of answer _ _ v.answer_is in cc
-
-  pub none_not_bad : SaysWhyNone u answer → answer.status ≢ status.BadFile
-  none_not_bad (inl v) = λ is. let e = status_of answer _ _ v.answer_is in cc
-  none_not_bad (inr v) = λ is. let e = status_of answer _ _ v.answer_is in cc
-
-  pub few_by_status : SaysWhyNone u answer → answer.status ≡ status.TooFewTags → SaysTooFew u answer
+  few_by_status : SaysWhyNone u answer → answer.status ≡ status.TooFewTags → SaysTooFew u answer
   few_by_status (inl v) is = v
   few_by_status (inr v) is = absurd (let e = status_of answer _ _ v.answer_is in cc)
 
-  pub small_by_status : SaysWhyNone u answer → answer.status ≡ status.TooSmall → SaysTooSmall u answer
+  small_by_status : SaysWhyNone u answer → answer.status ≡ status.TooSmall → SaysTooSmall u answer
   small_by_status (inl v) is = absurd (let e = status_of answer _ _ v.answer_is in cc)
   small_by_status (inr v) is = v
 
@@ -93,19 +81,19 @@ module _ (u : Update) (answer : Answer) where
   none_fits fits (inl v) = let need = v.few.need_is in let has = v.few.has_is in let fewer = v.few.fewer in let tags = fits.tags in omega (arith, need, has, fewer, tags)
   none_fits fits (inr v) = let need = v.small.need_is in let capacity = v.small.capacity_is in let over = v.small.over in let room = fits.room v.switch v.small.within in omega (arith, need, capacity, over, room)
 
-  pub few_of_none : length (available_tags u.net) < length u.net.vlans → SaysWhyNone u answer → SaysTooFew u answer
+  few_of_none : length (available_tags u.net) < length u.net.vlans → SaysWhyNone u answer → SaysTooFew u answer
   few_of_none fewer (inl v) = v
   few_of_none fewer (inr v) = absurd (let tags = v.small.tags in omega (arith, tags, fewer))
 
-  pub small_of_none : (s : SwitchId) (need capacity : ℕ) → IsFirstTooSmall u.net u.old u.new s need capacity → SaysWhyNone u answer → SaysTooSmall u answer
+  small_of_none : (s : SwitchId) (need capacity : ℕ) → IsFirstTooSmall u.net u.old u.new s need capacity → SaysWhyNone u answer → SaysTooSmall u answer
   small_of_none s need capacity small (inl v) = absurd (let n = v.few.need_is in let has = v.few.has_is in let fewer = v.few.fewer in let tags = small.tags in omega (arith, n, has, fewer, tags))
   small_of_none s need capacity small (inr v) = v
 
 -- two phases that fit have enough tags, and room at each switch
-pub fits_tags : (u : Update) → FitsTwoPhase u.net u.old u.new → ¬ (length (available_tags u.net) < length u.net.vlans)
+fits_tags : (u : Update) → FitsTwoPhase u.net u.old u.new → ¬ (length (available_tags u.net) < length u.net.vlans)
 fits_tags u fits = λ fewer. let tags = fits.tags in omega (arith, tags, fewer)
 
-pub fits_room : (u : Update) (s : SwitchId) (need capacity : ℕ) → FitsTwoPhase u.net u.old u.new → ¬ IsFirstTooSmall u.net u.old u.new s need capacity
+fits_room : (u : Update) (s : SwitchId) (need capacity : ℕ) → FitsTwoPhase u.net u.old u.new → ¬ IsFirstTooSmall u.net u.old u.new s need capacity
 fits_room u s need capacity fits = λ small.
     let n = small.need_is in
     let c = small.capacity_is in
@@ -163,72 +151,117 @@ update_beside files others names plan text u beside mean = record {
 
 -- ---- the answer
 
--- the answer on an update: too many classes, an end that isn't good, or what is said of one with good ends
-abbrev pub IsAnswerBy : (Update → Answer → Type 0) → Update → Answer → Type 0
-IsAnswerBy Says u answer = SaysTooMany (update_count u) answer ⊎ (SaysWhyNot (update_count u) (BothEndsAreGood u) (IsEndLine u) answer ⊎ Says u answer)
+-- such a plan, or why there is none
+module _ (Is : Update → Plan → Type 0) (u : Update) (answer : Answer) where
+  abbrev IsFound : Type 0
+  IsFound = SaysPlanOf Is u answer ⊎ SaysWhyNone u answer
 
--- the answer is the text of a plan, which is certified and keeps every packet of every run consistent
-pub record SaysGoodPlan (u : Update) (answer : Answer) : Type 0 where
-  pub plan : Plan
-  pub says : SaysPlan u.net plan answer
-  pub certified : IsCertified (task_for u plan) plan.evidence
-  pub consistent : IsConsistent u plan.rounds (is_two_phase plan.evidence)
-  pub classes : HasSameClasses (classes_for (task_for u plan)) (update_classes u)
+  done_found : IsFound → answer.status ≡ status.Done → SaysPlanOf Is u answer
+  done_found (inl v) is = v
+  done_found (inr v) is = absurd (none_other u answer status.Done (λ e. cc) (λ e. cc) v is)
 
--- each part in its place
-pub answer_on : (Says : Update → Answer → Type 0) (u : Update) (answer : Answer) → IsAnswerBy Says u answer → IsAnswerOn (update_count u) (BothEndsAreGood u) (Says u answer) (IsEndLine u) answer
-answer_on Says u answer (inl many) = inl many
-answer_on Says u answer (inr (inl why)) = inr (inr why)
-answer_on Says u answer (inr (inr says)) = inr (inl says)
+  few_found : IsFound → answer.status ≡ status.TooFewTags → SaysTooFew u answer
+  few_found (inl v) is = absurd (let e = plan_status u answer v.plan v.says in cc)
+  few_found (inr v) is = few_by_status u answer v is
 
--- a settled run, and what is known where something is said of an update with good ends
-pub record AnswersUpdate (Says : Update → Answer → Type 0) (files : Files) (names : UpdateNames) (old new : Option (List ℕ)) (result : Status) : Type 0 where
-  pub judged : JudgesFiles (FilesMeanUpdate files names) update_count BothEndsAreGood Says IsEndLine old new result
-  pub plan : (u : Update) → Says u judged.run.answer → judged.run.answer.status ≡ status.Done → SaysGoodPlan u judged.run.answer
+  small_found : IsFound → answer.status ≡ status.TooSmall → SaysTooSmall u answer
+  small_found (inl v) is = absurd (let e = plan_status u answer v.plan v.says in cc)
+  small_found (inr v) is = small_by_status u answer v is
 
--- the run of a command's dialogue is one
-abbrev pub answers_by : (Says : Update → Answer → Type 0) (files : Files) (names : UpdateNames) (old new : Option (List ℕ)) (result : Status) → Answered (IsAnswerBy Says) files (reading_update names) old new result
-    → ((u : Update) (answer : Answer) → Says u answer → SaysOfGood (update_count u) (BothEndsAreGood u) answer) → ((u : Update) (answer : Answer) → Says u answer → answer.status ≡ status.Done → SaysGoodPlan u answer)
-    → AnswersUpdate Says files names old new result
-answers_by Says files names old new result a of_good plan = record {
-  judged = judges_by (update_meant files names) a (answer_on Says) of_good;
-  plan = λ u says is. plan u a.answer says is;
+  found_other : (s : Status) → s ≢ status.Done → s ≢ status.TooFewTags → s ≢ status.TooSmall → IsFound → answer.status ≢ s
+  found_other s done few small (inl v) = λ is. done (sym is ∙ plan_status u answer v.plan v.says)
+  found_other s done few small (inr v) = none_other u answer s few small v
+
+module _ (Is : Update → Plan → Type 0) (SaysNone OfTrees : Update → Answer → Type 0) where
+  -- each part in its place
+  answer_on : (u : Update) (answer : Answer) → IsPlanAnswer Is SaysNone OfTrees u answer → IsAnswerOn (update_count u) (BothEndsAreGood u) (SaysOfGoodEnds Is SaysNone OfTrees u answer) (IsEndLine u) answer
+  answer_on u answer (inl (inl many)) = inl many
+  answer_on u answer (inl (inr why)) = inr (inr why)
+  answer_on u answer (inr says) = inr (inl says)
+
+  found_of : (u : Update) (answer : Answer) → (SaysNone u answer → SaysWhyNone u answer) → SaysOfGoodEnds Is SaysNone OfTrees u answer → SaysPlanOf Is u answer ⊎ SaysWhyNone u answer
+  found_of u answer why says = elim says.found [ inl v ↦ inl v | inr v ↦ inr (why v) ]
+
+  of_good_ends : ((u : Update) (answer : Answer) → SaysNone u answer → SaysWhyNone u answer) → (u : Update) (answer : Answer) → SaysOfGoodEnds Is SaysNone OfTrees u answer → SaysOfGood (update_count u) (BothEndsAreGood u) answer
+  of_good_ends why u answer says =
+      let found = found_of u answer (why u answer) says in
+      record {
+        few = says.few;
+        holds = says.good;
+        not_refused = found_other Is u answer status.Refused (λ e. cc) (λ e. cc) (λ e. cc) found;
+        not_bad = found_other Is u answer status.BadFile (λ e. cc) (λ e. cc) (λ e. cc) found;
+      }
+
+-- a settled run of a command that plans
+pub record AnswersUpdate (Is : Update → Plan → Type 0) (SaysNone OfTrees : Update → Answer → Type 0) (files : Files) (names : UpdateNames) (old new : Option (List ℕ)) (result : Status) : Type 0 where
+  pub judged : JudgesFiles (FilesMeanUpdate files names) update_count BothEndsAreGood (SaysOfGoodEnds Is SaysNone OfTrees) IsEndLine old new result
+  pub why : (u : Update) → SaysNone u judged.run.answer → SaysWhyNone u judged.run.answer
+
+-- the run of such a command's dialogue is one
+pub answers_by : (Is : Update → Plan → Type 0) (SaysNone OfTrees : Update → Answer → Type 0) (files : Files) (names : UpdateNames) (old new : Option (List ℕ)) (result : Status)
+    → ((u : Update) (answer : Answer) → SaysNone u answer → SaysWhyNone u answer) → Answered (IsPlanAnswer Is SaysNone OfTrees) files (reading_update names) old new result
+    → AnswersUpdate Is SaysNone OfTrees files names old new result
+answers_by Is SaysNone OfTrees files names old new result why a = record {
+  judged = judges_by (update_meant files names) a (answer_on Is SaysNone OfTrees) (of_good_ends Is SaysNone OfTrees why);
+  why = λ u. why u a.answer;
 }
 
 -- of a settled run over a source that tells
-module _ (Says : Update → Answer → Type 0) (files : Files) (names : UpdateNames) (old new : Option (List ℕ)) (result : Status) (a : AnswersUpdate Says files names old new result) where
+module _ {Is : Update → Plan → Type 0} {SaysNone OfTrees : Update → Answer → Type 0} {files : Files} {names : UpdateNames} {old new : Option (List ℕ)} {result : Status}
+    (r : AnswersUpdate Is SaysNone OfTrees files names old new result) where
+  abbrev pub run_answer : Answer
+  run_answer = r.judged.run.answer
+
   -- what is said of an update
-  pub says : (u : Update) → FilesMeanUpdate files names u → result ≢ status.BadFile → result ≢ status.Refused → Says u a.judged.run.answer
-  says u mean other broken = says_of a.judged u mean other broken
+  says : (u : Update) → FilesMeanUpdate files names u → result ≢ status.BadFile → result ≢ status.Refused → SaysOfGoodEnds Is SaysNone OfTrees u run_answer
+  says u mean other broken = says_of r.judged u mean other broken
 
   -- what is said where the ends are good
-  pub of_good : (u : Update) → FilesMeanGoodEnds files names u → Says u a.judged.run.answer
-  of_good u good = says_good a.judged u good.mean good.few good.good
+  pub of_good : (u : Update) → FilesMeanGoodEnds files names u → SaysOfGoodEnds Is SaysNone OfTrees u run_answer
+  of_good u good = says_good r.judged u good.mean good.few good.good
 
-  pub good_ends : (u : Update) → FilesMeanUpdate files names u → Says u a.judged.run.answer → FilesMeanGoodEnds files names u
-  good_ends u mean said =
-      let v = a.judged.of_good u said in
-      record { mean = mean; few = v.few; good = v.holds }
+  good_ends : (u : Update) → FilesMeanUpdate files names u → SaysOfGoodEnds Is SaysNone OfTrees u run_answer → FilesMeanGoodEnds files names u
+  good_ends u mean says = record { mean = mean; few = says.few; good = says.good }
+
+  found : (u : Update) → SaysOfGoodEnds Is SaysNone OfTrees u run_answer → SaysPlanOf Is u run_answer ⊎ SaysWhyNone u run_answer
+  found u says = found_of Is SaysNone OfTrees u run_answer (r.why u) says
+
+  -- destination trees have good ends
+  pub trees_good : (u : Update) → FilesMeanTrees files names u → FilesMeanGoodEnds files names u
+  trees_good u trees = record { mean = trees.mean; few = trees.few; good = tree_ends u trees.tree }
+
+  pub of_trees : (u : Update) → FilesMeanTrees files names u → OfTrees u run_answer
+  of_trees u trees = (of_good u (trees_good u trees)).tree trees.tree
 
   -- ---- the plan that was written
 
-  pub wrote_plan : (u : Update) (p : Plan) → SaysPlan u.net p a.judged.run.answer → Appends old new (plan_text u.net p)
-  wrote_plan u p said = wrote a.judged.run (plan_text u.net p) (text_of a.judged.run.answer _ _ said.answer_is)
+  pub wrote_plan : (u : Update) (p : Plan) → SaysPlan u.net p run_answer → Appends old new (plan_text u.net p)
+  wrote_plan u p said = wrote r.judged.run (plan_text u.net p) (text_of run_answer _ _ said.answer_is)
 
-  text_is : (before : List ℕ) → old ≡ Some before → (u : Update) (p : Plan) → SaysPlan u.net p a.judged.run.answer → (text : List ℕ) → Appends old new text → text ≡ plan_text u.net p
+  text_is : (before : List ℕ) → old ≡ Some before → (u : Update) (p : Plan) → SaysPlan u.net p run_answer → (text : List ℕ) → Appends old new text → text ≡ plan_text u.net p
   text_is before told u p said text there =
       texts_same before new text (plan_text u.net p) (subst (λ o. Appends o new text) told there)
       (subst (λ o. Appends o new (plan_text u.net p)) told (wrote_plan u p said))
 
   -- the plan that was written is the one that the answer has
-  pub written_is : (before : List ℕ) → old ≡ Some before → (u : Update) (q : Plan) → SaysPlan u.net q a.judged.run.answer → (p : Plan) → WritesPlan u.net p old new → q ≡ p
+  written_is : (before : List ℕ) → old ≡ Some before → (u : Update) (q : Plan) → SaysPlan u.net q run_answer → (p : Plan) → WritesPlan u.net p old new → q ≡ p
   written_is before told u q said p writes =
       let same = text_is before told u q said writes.text writes.written in
       let plans : Ok p ≡ Ok q = sym writes.means ∙ ap (λ t. plan_in u.net t) same ∙ said.means in
       cc
 
-  plan_of : result ≡ status.Done → (u : Update) → FilesMeanUpdate files names u → SaysGoodPlan u a.judged.run.answer
-  plan_of is u mean = a.plan u (says u mean (λ e. cc) (λ e. cc)) (a.judged.run.status_is ∙ is)
+  plan_of : result ≡ status.Done → (u : Update) → FilesMeanUpdate files names u → SaysPlanOf Is u run_answer
+  plan_of is u mean = done_found Is u run_answer (found u (says u mean (λ e. cc) (λ e. cc))) (r.judged.run.status_is ∙ is)
+
+  pub writes : result ≡ status.Done → (u : Update) → FilesMeanUpdate files names u → WritesPlanOf Is u old new
+  writes is u mean =
+      let v = plan_of is u mean in
+      record { plan = v.plan; which = v.which; means = v.says.means; written = wrote_plan u v.plan v.says }
+
+  pub which_of : (before : List ℕ) → old ≡ Some before → result ≡ status.Done → (u : Update) (p : Plan) → FilesMeanUpdate files names u → WritesPlan u.net p old new → Is u p
+  which_of before told is u p mean writes =
+      let v = plan_of is u mean in
+      subst (Is u) (written_is before told u v.plan v.says p writes) v.which
 
   pub keeps : (before : List ℕ) → old ≡ Some before → result ≡ status.Done → (u : Update) (p : Plan) → FilesMeanUpdate files names u → WritesPlan u.net p old new → KeepsConsistent u p
   keeps before told is u p mean writes =
@@ -237,7 +270,7 @@ module _ (Says : Update → Answer → Type 0) (files : Files) (names : UpdateNa
 
   pub checked : (before : List ℕ) → old ≡ Some before → result ≡ status.Done → (others : Files) (plan text : List ℕ) → Appends old new text → length text ≤ limit_of kind.Plan → HoldBeside files others names plan text → FilesAreCertified others (record { update = names; plan = plan })
   checked before told is others plan text there within beside =
-      let (u, mean) = meant a.judged.run status.Done (λ e. cc) is in
+      let (u, mean) = meant r.judged.run status.Done (λ e. cc) is in
       let v = plan_of is u mean in
       let same = text_is before told u v.plan v.says text there in
       let count = count_same (classes_for (task_for u v.plan)) (update_classes u) v.classes in
@@ -247,46 +280,95 @@ module _ (Says : Update → Answer → Type 0) (files : Files) (names : UpdateNa
           update_is = update_beside files others names plan text u beside mean;
           plan_is = record { bytes = text; held = beside.plan_is; within = within; means = ap (λ t. plan_in u.net t) same ∙ v.says.means };
         };
-        few = subst (λ n. n ≤ most_classes) (sym count) (good_ends u mean (says u mean (λ e. cc) (λ e. cc))).few;
+        few = subst (λ n. n ≤ most_classes) (sym count) (says u mean (λ e. cc) (λ e. cc)).few;
         holds = v.certified;
       }
 
+  -- ---- whether there is a plan
+
+  module _ (Has : Update → Type 0) (has : (u : Update) (p : Plan) → Is u p → Has u) (not_none : (u : Update) (answer : Answer) → Has u → ¬ SaysNone u answer) where
+    pub done_at : (u : Update) → FilesMeanGoodEnds files names u → Has u → result ≡ status.Done
+    done_at u good there =
+        let is : run_answer.status ≡ status.Done = elim (of_good u good).found [
+          | inl v ↦ plan_status u run_answer v.plan v.says
+          | inr v ↦ absurd (not_none u run_answer there v)
+        ] in
+        sym r.judged.run.status_is ∙ is
+
+    pub done : (result ≡ status.Done) ↔ FilesHave Has files names
+    done = (
+      λ is.
+          let (u, mean) = meant r.judged.run status.Done (λ e. cc) is in
+          let v = plan_of is u mean in
+          record { update = u; mean = good_ends u mean (says u mean (λ e. cc) (λ e. cc)); has = has u v.plan v.which },
+      λ h. done_at h.update h.mean h.has,
+    )
+
   -- ---- why none was written
 
-  abbrev pub lack_tags : (u : Update) → FilesMeanGoodEnds files names u → SaysTooFew u a.judged.run.answer → FilesLackTags files names
-  lack_tags u mean v = record {
-    update = u;
-    mean = mean;
-    stuck = record { changes = v.stuck.changes; ends = v.stuck.ends };
-    fewer = let need = v.few.need_is in let has = v.few.has_is in let fewer = v.few.fewer in omega (arith, need, has, fewer);
-  }
+  pub lack_tags : result ≡ status.TooFewTags → FilesLackTags files names
+  lack_tags is =
+      let (u, mean) = meant r.judged.run status.TooFewTags (λ e. cc) is in
+      let said = says u mean (λ e. cc) (λ e. cc) in
+      let v = few_found Is u run_answer (found u said) (r.judged.run.status_is ∙ is) in
+      record {
+        update = u;
+        mean = good_ends u mean said;
+        stuck = record { changes = v.stuck.changes; ends = v.stuck.ends };
+        fewer = let need = v.few.need_is in let has = v.few.has_is in let fewer = v.few.fewer in omega (arith, need, has, fewer);
+      }
 
-  abbrev pub lack_room : (u : Update) → FilesMeanGoodEnds files names u → SaysTooSmall u a.judged.run.answer → FilesLackRoom files names
-  lack_room u mean v = record {
-    update = u;
-    mean = mean;
-    stuck = record { changes = v.stuck.changes; ends = v.stuck.ends };
-    switch = v.switch;
-    need = v.need;
-    capacity = v.capacity;
-    small = v.small;
-  }
+  pub lack_room : result ≡ status.TooSmall → FilesLackRoom files names
+  lack_room is =
+      let (u, mean) = meant r.judged.run status.TooSmall (λ e. cc) is in
+      let said = says u mean (λ e. cc) (λ e. cc) in
+      let v = small_found Is u run_answer (found u said) (r.judged.run.status_is ∙ is) in
+      record {
+        update = u;
+        mean = good_ends u mean said;
+        stuck = record { changes = v.stuck.changes; ends = v.stuck.ends };
+        switch = v.switch;
+        need = v.need;
+        capacity = v.capacity;
+        small = v.small;
+      }
 
-  pub too_few_written : IsOneStuck → (u : Update) (stuck : IsStuck u) → SaysTooFew u a.judged.run.answer
-      → Appends old new (too_few_lines u.net (length u.net.vlans) (length (available_tags u.net)) (single_rounds stuck.changes))
-  too_few_written one u stuck v =
-      let changes = one (update_target u) u.old v.stuck.changes stuck.changes v.stuck.ends stuck.ends in
-      let rounds = v.stuck.rounds_are ∙ ap (λ cs. single_rounds cs) changes in
-      wrote a.judged.run _ (text_of a.judged.run.answer _ _ v.answer_is
-      ∙ ap (λ n. too_few_lines u.net n v.has v.rounds) v.few.need_is
-      ∙ ap (λ n. too_few_lines u.net (length u.net.vlans) n v.rounds) v.few.has_is
-      ∙ ap (λ rs. too_few_lines u.net (length u.net.vlans) (length (available_tags u.net)) rs) rounds)
+  -- where such a plan is one of two phases that fit
+  module _ (h : FilesLackTags files names) (fits : (p : Plan) → Is h.update p → FitsTwoPhase h.update.net h.update.old h.update.new) where
+    says_few : SaysTooFew h.update run_answer
+    says_few = elim (found h.update (of_good h.update h.mean)) [
+      | inl v ↦ absurd (fits_tags h.update (fits v.plan v.which) h.fewer)
+      | inr v ↦ few_of_none h.update run_answer h.fewer v
+    ]
 
-  pub too_small_written : IsOneStuck → (u : Update) (stuck : IsStuck u) (s : SwitchId) (need capacity : ℕ) → IsFirstTooSmall u.net u.old u.new s need capacity → SaysTooSmall u a.judged.run.answer
-      → Appends old new (too_small_lines u.net s need capacity (single_rounds stuck.changes))
-  too_small_written one u stuck s need capacity small v =
-      let changes = one (update_target u) u.old v.stuck.changes stuck.changes v.stuck.ends stuck.ends in
-      let rounds = v.stuck.rounds_are ∙ ap (λ cs. single_rounds cs) changes in
-      wrote a.judged.run _ (text_of a.judged.run.answer _ _ v.answer_is
-      ∙ small_lines_same u.net u.old u.new v.switch s v.need v.capacity need capacity v.rounds v.small small
-      ∙ ap (λ rs. too_small_lines u.net s need capacity rs) rounds)
+    pub too_few : result ≡ status.TooFewTags
+    too_few = sym r.judged.run.status_is ∙ status_of run_answer _ _ says_few.answer_is
+
+    pub too_few_written : IsOneStuck → Appends old new (too_few_lines h.update.net (length h.update.net.vlans) (length (available_tags h.update.net)) (single_rounds h.stuck.changes))
+    too_few_written one =
+        let v = says_few in
+        let changes = one (update_target h.update) h.update.old v.stuck.changes h.stuck.changes v.stuck.ends h.stuck.ends in
+        let rounds = v.stuck.rounds_are ∙ ap (λ cs. single_rounds cs) changes in
+        wrote r.judged.run _ (text_of run_answer _ _ v.answer_is
+        ∙ ap (λ n. too_few_lines h.update.net n v.has v.rounds) v.few.need_is
+        ∙ ap (λ n. too_few_lines h.update.net (length h.update.net.vlans) n v.rounds) v.few.has_is
+        ∙ ap (λ rs. too_few_lines h.update.net (length h.update.net.vlans) (length (available_tags h.update.net)) rs) rounds)
+
+  module _ (h : FilesLackRoom files names) (fits : (p : Plan) → Is h.update p → FitsTwoPhase h.update.net h.update.old h.update.new) where
+    says_small : SaysTooSmall h.update run_answer
+    says_small = elim (found h.update (of_good h.update h.mean)) [
+      | inl v ↦ absurd (fits_room h.update h.switch h.need h.capacity (fits v.plan v.which) h.small)
+      | inr v ↦ small_of_none h.update run_answer h.switch h.need h.capacity h.small v
+    ]
+
+    pub too_small : result ≡ status.TooSmall
+    too_small = sym r.judged.run.status_is ∙ status_of run_answer _ _ says_small.answer_is
+
+    pub too_small_written : IsOneStuck → Appends old new (too_small_lines h.update.net h.switch h.need h.capacity (single_rounds h.stuck.changes))
+    too_small_written one =
+        let v = says_small in
+        let changes = one (update_target h.update) h.update.old v.stuck.changes h.stuck.changes v.stuck.ends h.stuck.ends in
+        let rounds = v.stuck.rounds_are ∙ ap (λ cs. single_rounds cs) changes in
+        wrote r.judged.run _ (text_of run_answer _ _ v.answer_is
+        ∙ small_lines_same h.update.net h.update.old h.update.new v.switch h.switch v.need v.capacity h.need h.capacity v.rounds v.small h.small
+        ∙ ap (λ rs. too_small_lines h.update.net h.switch h.need h.capacity rs) rounds)

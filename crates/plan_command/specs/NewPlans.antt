@@ -21,7 +21,7 @@ use Rattle.command_base.specs.JudgedFiles.{RefusalPromise}
 use Rattle.command_base.specs.Judgements.{most_classes}
 use Rattle.certificates.specs.Updates.{Update}
 use Rattle.command_base.specs.Updates.{FilesMeanUpdate}
-use Rattle.plan_command.specs.Planned.{BothEndsAreGood, IsEndLine, IsNewPlan}
+use Rattle.plan_command.specs.Ends.{BothEndsAreGood, IsEndLine}
 
 -- the files mean this update, there are few enough classes, and both ends are good
 pub record FilesMeanGoodEnds (files : Files) (names : UpdateNames) (u : Update) : Type 0 where
@@ -49,11 +49,15 @@ pub record IsStuck (u : Update) : Type 0 where
 abbrev pub HasPlan : Update → Type 0
 HasPlan u = IsOrdered u ⊎ (IsStuck u × FitsTwoPhase u.net u.old u.new)
 
--- the files mean an update with good ends that has a plan
-pub record FilesHavePlan (files : Files) (names : UpdateNames) : Type 0 where
+-- the files mean an update with good ends of which this holds
+pub record FilesHave (Has : Update → Type 0) (files : Files) (names : UpdateNames) : Type 0 where
   pub update : Update
   pub mean : FilesMeanGoodEnds files names update
-  pub planned : HasPlan update
+  pub has : Has update
+
+-- the files mean an update with good ends that has a plan
+abbrev pub FilesHavePlan : Files → UpdateNames → Type 0
+FilesHavePlan files names = FilesHave HasPlan files names
 
 -- The run refuses exactly the updates of which an end isn't good, by a line that names the first break, and too many classes.
 abbrev pub RefusesBadEnds : Files → UpdateNames → Option (List ℕ) → Option (List ℕ) → Status → Type 0
@@ -76,10 +80,10 @@ pub record FilesLackRoom (files : Files) (names : UpdateNames) : Type 0 where
   pub capacity : ℕ
   pub small : IsFirstTooSmall update.net update.old update.new switch need capacity
 
--- the text of a new plan was written, and reading it gives this plan
-pub record WritesNewPlan (u : Update) (old new : Option (List ℕ)) : Type 0 where
+-- the text of such a plan was written, and reading it gives this plan
+pub record WritesPlanOf (Is : Update → Plan → Type 0) (u : Update) (old new : Option (List ℕ)) : Type 0 where
   pub plan : Plan
-  pub is_new : IsNewPlan u plan
+  pub which : Is u plan
   pub means : plan_in u.net (plan_text u.net plan) ≡ Ok plan
   pub written : Appends old new (plan_text u.net plan)
 

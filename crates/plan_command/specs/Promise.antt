@@ -16,7 +16,8 @@ use Rattle.command_base.specs.Updates.{FilesMeanUpdate, WritesPlan}
 use Rattle.command_base.specs.Runs.{IsComplete}
 use Rattle.check_base.specs.Checks.{FilesAreCertified}
 use Rattle.plan_command.specs.NoPlanLines as lines
-use Rattle.plan_command.specs.NewPlans.{FilesHavePlan, FilesLackTags, FilesLackRoom, FilesMeanTrees, WritesNewPlan, WritesOrderedPlan, RefusesBadEnds, HoldBeside}
+use Rattle.plan_command.specs.NewPlans.{FilesHavePlan, FilesLackTags, FilesLackRoom, FilesMeanTrees, WritesPlanOf, WritesOrderedPlan, RefusesBadEnds, HoldBeside}
+use Rattle.plan_command.specs.Planned.{IsNewPlan}
 
 -- the files and their names, what was written before and after the run, and how it ended
 pub record PlanPromise (files : Files) (names : UpdateNames) (old new : Option (List ℕ)) (result : Status) : Type 0 where
@@ -25,7 +26,7 @@ pub record PlanPromise (files : Files) (names : UpdateNames) (old new : Option (
   pub done : IsComplete result → ((result ≡ status.Done) ↔ FilesHavePlan files names)
   -- Then the text of the plan was written: the one of the search, or that of two phases with the rounds of the search as those that
   -- were tried. Reading it gives this plan.
-  pub writes : (u : Update) → FilesMeanUpdate files names u → result ≡ status.Done → WritesNewPlan u old new
+  pub writes : (u : Update) → FilesMeanUpdate files names u → result ≡ status.Done → WritesPlanOf IsNewPlan u old new
   -- The plan that was written is certified, and so it keeps each packet's trace good in every state of every run.
   pub keeps : (before : List ℕ) (u : Update) (p : Plan) → old ≡ Some before → result ≡ status.Done → FilesMeanUpdate files names u → WritesPlan u.net p old new → KeepsConsistent u p
   -- Where what was written has no more bytes than a plan may have, `check` over the same files and this text says Done.

@@ -8,5 +8,5 @@ mod no_plan_lines;
 mod planning;
 
 pub use crate::command::plan;
-pub use crate::ends::end_reply;
-pub use crate::planning::{too_few_reply, too_small_reply};
+pub use crate::ends::{EndsVerdict, GoodEnds, judge_ends};
+pub use crate::planning::no_plan_reply;

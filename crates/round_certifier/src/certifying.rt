@@ -183,3 +183,18 @@ pub fn certify(
     }
     certify_rounds(alloc, case, room)
 }
+
+/// The rounds of the plan, with this evidence in place of its own.
+pub fn with_evidence(plan: Plan, evidence: OrderedEvidence) -> Plan
+    ensures { result ≡ record { rounds = plan.rounds; evidence = Ordered evidence } }
+{
+    let Plan {
+        rounds,
+        evidence: own,
+    } = plan;
+    drop(own);
+    Plan {
+        rounds,
+        evidence: Evidence::Ordered(evidence),
+    }
+}

@@ -9,5 +9,5 @@ use Rattle.pack_command.proofs.packing.certify_packed.Goals as goal
 pub unreachable-requires : goal.unreachable-requires
 unreachable-requires c =
     let v : CaseView = record { task = task_for (meaning_of c.args.files.now) c.args.plan.now; evidence = c.args.plan.now.evidence } in
-    not_refused (meaning_of c.args.files.now) c.requires.old c.requires.new c.args.plan.now c.requires.packed c.requires.classes c.requires.good c.args.plan.now.evidence c.requires.bare c.in-Err-Refused.field-0-0
+    not_refused (meaning_of c.args.files.now) c.requires.old c.requires.new c.args.plan.now c.requires.plan.packed c.requires.plan.classes c.requires.good c.args.plan.now.evidence c.requires.plan.bare c.in-Err-Refused.field-0-0
     (subst (OfRefusal (IsFirstRefusal v)) c.in-Err-Refused.field-0-is c.in-Err-Refused.ensures.refused)

@@ -12,16 +12,17 @@ use Rattle.pack_command.specs.Chosen.{IsPackedPlan}
 use Rattle.pack_command.proofs.PlanLaws.{bare_valid, same_classes, searched_as}
 use Rattle.pack_command.proofs.packing.packed_plan.Goals as goal
 
-pub packed_evidence-requires-clause-valid : goal.packed_evidence-requires-clause-valid
-packed_evidence-requires-clause-valid c =
+pub packed_evidence-requires-clause-plan : goal.packed_evidence-requires-clause-plan
+packed_evidence-requires-clause-plan c =
+    let u : Update = meaning_of c.args.files.now in
     let bare : Plan = record { rounds = c.args.rounds; evidence = Ordered c.in-Ok.none } in
     let none : bare.evidence ≡ Ordered no_evidence = ap (λ (e : OrderedEvidence). Ordered e) c.in-Ok.ensures in
-    bare_valid (meaning_of c.args.files.now) c.requires.old c.requires.new bare c.requires.packed c.keeps_rules.ensures none
-
-pub packed_evidence-requires-clause-classes : goal.packed_evidence-requires-clause-classes
-packed_evidence-requires-clause-classes c =
-    let bare : Plan = record { rounds = c.args.rounds; evidence = Ordered c.in-Ok.none } in
-    same_classes (meaning_of c.args.files.now) c.requires.old c.requires.new bare c.requires.packed c.rounds_make_no_classes.ensures
+    record {
+      packed = c.requires.packed;
+      bare = none;
+      valid = bare_valid u c.requires.old c.requires.new bare c.requires.packed c.keeps_rules.ensures none;
+      classes = same_classes u c.requires.old c.requires.new bare c.requires.packed c.rounds_make_no_classes.ensures;
+    }
 
 pub returns-in-Ok-packed_evidence-clause-packed :
     goal.returns-in-Ok-packed_evidence-clause-packed
