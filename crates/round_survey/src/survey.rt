@@ -129,43 +129,8 @@ impl RoundSurvey {
         Ok(())
     }
 
-    /// Walks a class by itself, notes the switches that its walks come to, and whether it keeps its duties by what is seen.
-    fn walk_class(
-        &mut self,
-        alloc: Global,
-        round: PreparedRound<'_>,
-        duties: &Duties,
-        number: u32,
-    ) -> Result<(), Memory>
-        requires number { number < class_count duties.now.classes }
-        requires round { IsPreparedRound round }
-        requires hosts { duties.now.classes.hosts ≡ round.net.now.hosts }
-        requires room { HasSurveyRoom duties.now.classes self.old.classes.items self.old.came.items
-            self.old.good.items }
-        requires known { AreKnown (round_rollout round) duties.now.demands round.number
-            self.old.classes.items self.old.came.items self.old.good.items }
-        requires below { AreWalkedBelow number (round_rollout round) round.number
-            self.old.classes.items self.old.came.items }
-        ensures room { OnOk result (HasSurveyRoom duties.now.classes self.new.classes.items
-            self.new.came.items self.new.good.items) }
-        ensures known { OnOk result (AreKnown (round_rollout round.entry) duties.now.demands
-            round.entry.number self.new.classes.items self.new.came.items
-            self.new.good.items) }
-        ensures below { OnOk result (AreWalkedBelow (number + 1) (round_rollout round.entry)
-            round.entry.number self.new.classes.items self.new.came.items) }
-    {
-        round.net.keeps_rules();
-        let place = number as usize;
-        let class = self.classes[place];
-        self.walk.walk(round.net, round.mixes, class);
-        let wants_gates = duties.chains(number) > 0;
-        let seen = see(alloc, round.net, &self.walk, wants_gates)?;
-        self.good[place] = keeps_duties(&seen, duties, NumberedClass { number, class });
-        self.came[place] = seen.came;
-        Ok(())
-    }
-
-    /// Walks a class by itself, if it isn't marked.
+    /// Walks a class by itself, if it isn't marked, notes the switches that its walks come to, and whether it keeps its duties by
+    /// what is seen.
     fn look_at(
         &mut self,
         alloc: Global,
@@ -190,10 +155,18 @@ impl RoundSurvey {
         ensures below { OnOk result (AreWalkedBelow (number + 1) (round_rollout round.entry)
             round.entry.number self.new.classes.items self.new.came.items) }
     {
-        if self.good[number as usize] {
+        let place = number as usize;
+        if self.good[place] {
             return Ok(());
         }
-        self.walk_class(alloc, round, duties, number)
+        round.net.keeps_rules();
+        let class = self.classes[place];
+        self.walk.walk(round.net, round.mixes, class);
+        let wants_gates = duties.chains(number) > 0;
+        let seen = see(alloc, round.net, &self.walk, wants_gates)?;
+        self.good[place] = keeps_duties(&seen, duties, NumberedClass { number, class });
+        self.came[place] = seen.came;
+        Ok(())
     }
 
     /// Walks each class by itself that isn't marked.
