@@ -1,8 +1,9 @@
 -- Dialogues one behind the other, over what a source gave.
-use Rattle.std.proofs.Common.{◌≡◌, ℕ, ◌+◌, ◌<◌, ◌≤◌, List, length, None, Some, Ok, Err, inl, inr, refl, sym, ap, subst, arith}
+use Rattle.std.proofs.Common.{◌≡◌, ℕ, ◌+◌, ◌<◌, ◌≤◌, List, length, None, Some, Ok, Err, inl, inr, refl, sym, ap, ◌∙◌, subst, arith}
 use Rattle.std.specs.declared.option.Option.{Option}
 use Rattle.std.specs.declared.result.Result.{Result}
-use Rattle.std.specs.Result.{IfOk, IfErr}
+use Rattle.std.specs.Result.{IfOk, IfErr, IsErr, IsErrAnd}
+use Rattle.std.proofs.lemmas.Result.{err_from_is_err_and, IfOk-weaker, IfErr-weaker}
 use Rattle.file_access.specs.Causes.{Rose}
 use Rattle.file_access.specs.Outside.{Files, IsMissing, IsFile}
 use Rattle.command_base.specs.declared.kinds.FileKind.{FileKind}
@@ -104,14 +105,14 @@ pub gives_end : {A : Type 0} (held : Option Files) (last : Option FileRead) (v :
 gives_end held last v = record { given = (refl, refl) }
 
 -- bytes that mean a value give it
-pub gives_meaning : {A E : Type 0} (held : Option Files) (last : Option FileRead) (kind : FileKind) (words : E → FaultWords) (meaning : List ℕ → Result A E) (name bytes : List ℕ) (value : A)
+gives_meaning : {A E : Type 0} (held : Option Files) (last : Option FileRead) (kind : FileKind) (words : E → FaultWords) (meaning : List ℕ → Result A E) (name bytes : List ℕ) (value : A)
     → IsFile held name bytes → length bytes ≤ limit_of kind → meaning bytes ≡ Ok value → Gives held last (reading kind words meaning name) value (Some (file_read kind name))
 unfolding reading
 gives_meaning held last kind words meaning name bytes value file within means =
     record { given = (bytes, file, within, subst (λ r. IsGiven held (Some (file_read kind name)) (meaning_dialogue kind words r) value (Some (file_read kind name))) (sym means) (refl, refl)) }
 
 -- a file that isn't fetched ends its reading
-pub ends_unfetched : {A E : Type 0} (held : Option Files) (last : Option FileRead) (kind : FileKind) (words : E → FaultWords) (meaning : List ℕ → Result A E) (name : List ℕ) (before now : ℕ) (e : Exit) (selected : List ℕ) (taken : ℕ)
+ends_unfetched : {A E : Type 0} (held : Option Files) (last : Option FileRead) (kind : FileKind) (words : E → FaultWords) (meaning : List ℕ → Result A E) (name : List ℕ) (before now : ℕ) (e : Exit) (selected : List ℕ) (taken : ℕ)
     → EndsEarly held last (Reads kind name Ends) before now e selected taken → EndsEarly held last (reading kind words meaning name) before now e selected taken
 unfolding reading
 ends_unfetched held last kind words meaning name before now e selected taken end =
@@ -127,11 +128,39 @@ is_bad held last kind words meaning name bytes before now (exit.Says reply) sele
     (bytes, file, inl (within, subst (λ r. IsLedTo SaysNothing held (Some (file_read kind name)) (meaning_dialogue kind words r) (answer_of reply) selected taken) (sym bad.1) (bad.2, whole)))
 
 -- bytes that mean nothing end the reading with the line on them
-pub ends_bad : {A E : Type 0} (held : Option Files) (last : Option FileRead) (kind : FileKind) (words : E → FaultWords) (meaning : List ℕ → Result A E) (name bytes : List ℕ) (before now : ℕ) (e : Exit) (selected : List ℕ) (taken : ℕ)
+ends_bad : {A E : Type 0} (held : Option Files) (last : Option FileRead) (kind : FileKind) (words : E → FaultWords) (meaning : List ℕ → Result A E) (name bytes : List ℕ) (before now : ℕ) (e : Exit) (selected : List ℕ) (taken : ℕ)
     → IsFile held name bytes → length bytes ≤ limit_of kind → IsWhole (Some (file_read kind name)) selected taken → IsBad kind words (meaning bytes) e
     → EndsEarly held last (reading kind words meaning name) before now e selected taken
 ends_bad held last kind words meaning name bytes before now e selected taken file within whole bad =
     record { ended = is_bad held last kind words meaning name bytes before now e selected taken file within whole bad }
+
+-- ---- the reading of one file, by a function that fetches it and then reads its bytes
+
+-- what an early return hands on of its fault
+pub hands_on : {X E : Type 0} (P : E → Type 0) (r : Result X E) (e : E) → P e → IsErr r × IsErrAnd r (λ y. y ≡ e) → IfErr r P
+hands_on {X} {E} P r e holds is = let p = err_from_is_err_and r is.1 in rw (p.1, p.2) holds
+
+module _ {A E V : Type 0} (held : Option Files) (kind : FileKind) (words : E → FaultWords) (meaning : List ℕ → Result A E) (name : List ℕ) (r : Result V Exit) where
+  -- a file that isn't fetched
+  pub unfetched : (before now : ℕ) (selected : List ℕ) (taken : ℕ) {e : Exit} → ((last : Option FileRead) → EndsEarly held last (Reads kind name Ends) before now e selected taken)
+      → IsErr r × IsErrAnd r (λ y. y ≡ e) → IfErr r (λ e. (last : Option FileRead) → EndsEarly held last (reading kind words meaning name) before now e selected taken)
+  unfetched before now selected taken {e} stops is =
+      hands_on _ r e (λ last. ends_unfetched held last kind words meaning name before now e selected taken (stops last)) is
+
+  -- one whose bytes mean a value
+  pub fetched_gives : (view : V → A) {bytes text : List ℕ} → IsFile held name bytes → length bytes ≤ limit_of kind → text ≡ bytes → IfOk r (λ v. meaning text ≡ Ok (view v))
+      → IfOk r (λ v. (last : Option FileRead) → Gives held last (reading kind words meaning name) (view v) (Some (file_read kind name)))
+  fetched_gives view {bytes} {text} file within is =
+      IfOk-weaker r _ _ (λ v means last. gives_meaning held last kind words meaning name bytes (view v) file within (ap meaning (sym is) ∙ means))
+
+  -- one whose bytes mean nothing
+  pub fetched_stops : (before now : ℕ) (selected : List ℕ) (taken : ℕ) {bytes text : List ℕ} → IsFile held name bytes → length bytes ≤ limit_of kind
+      → IsWhole (Some (file_read kind name)) selected taken → text ≡ bytes → IfErr r (λ e. IsBad kind words (meaning text) e)
+      → IfErr r (λ e. (last : Option FileRead) → EndsEarly held last (reading kind words meaning name) before now e selected taken)
+  fetched_stops before now selected taken {bytes} {text} file within whole is =
+      IfErr-weaker r _ _ (λ e bad last. ends_bad held last kind words meaning name bytes before now e selected taken file within whole (subst (λ (bs : List ℕ). IsBad kind words (meaning bs) e) is bad))
+
+-- ---- early ends and replies
 
 is_said : {E : Type 0} (says : E → Answer → Type 0) (held : Option Files) (last : Option FileRead) (d : Dialogue E) (answer : Answer) (selected : List ℕ) (taken : ℕ)
     → IsLedTo SaysNothing held last d answer selected taken → IsLedTo says held last d answer selected taken

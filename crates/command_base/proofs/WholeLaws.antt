@@ -2,14 +2,15 @@
 use Rattle.std.proofs.Common.{◌≡◌, ℕ, List, None, Ok, Err}
 use Rattle.std.specs.declared.option.Option.{Option}
 use Rattle.std.specs.declared.result.Result.{Result}
-use Rattle.std.specs.Result.{IfOk, IfErr}
+use Rattle.std.specs.Result.{IfOk, IfErr, IsErr, IsErrAnd}
+use Rattle.std.proofs.lemmas.Result.{err_from_is_err_and}
 use Rattle.file_access.specs.Outside.{Files}
 use Rattle.command_base.specs.declared.exit.Exit.{Exit}
 use Rattle.command_base.specs.declared.exit.Exit.TheVariants as exit
 use Rattle.command_base.specs.declared.reply.Reply.{Reply}
 use Rattle.command_base.specs.Answers.{Answer}
 use Rattle.command_base.specs.Dialogues.{Dialogue, Ends, FileRead, Gives, IsWhole}
-use Rattle.command_base.specs.Replies.{answer_of, IsMet, Meets}
+use Rattle.command_base.specs.Replies.{answer_of, EndsEarly, IsMet, Meets}
 use Rattle.command_base.proofs.DialogueLaws.{gives_end, leads_whole, ends_for_memory}
 
 is_met_whole : {E : Type 0} (says : E → Answer → Type 0) (held : Option Files) (last : Option FileRead) (d : Dialogue E) (v : E) (before now : ℕ) (r : Result Reply Exit) (selected : List ℕ) (taken : ℕ)
@@ -24,6 +25,13 @@ pub meets_whole : {E : Type 0} {says : E → Answer → Type 0} {held : Option F
     → Meets says held d before now r selected taken
 meets_whole {E} {says} {held} {last} {d} {v} {before} {now} {r} {selected} {taken} gives whole said stops =
     record { met = is_met_whole says held last d v before now r selected taken gives whole said stops }
+
+-- an early end of the dialogue, handed on
+pub meets_early : {E : Type 0} {says : E → Answer → Type 0} {held : Option Files} {d : Dialogue E} {before now : ℕ} {e : Exit} {r : Result Reply Exit} {selected : List ℕ} {taken : ℕ}
+    → EndsEarly held None d before now e selected taken → IsErr r × IsErrAnd r (λ y. y ≡ e) → Meets says held d before now r selected taken
+meets_early {E} {says} {held} {d} {before} {now} {e} {r} {selected} {taken} end is =
+    let p = err_from_is_err_and r is.1 in
+    rw (p.1, p.2) (record { met = end })
 
 -- the same of a command that reads no file: it meets the dialogue that ends at once, over every source
 pub meets_at_once : {E : Type 0} {says : E → Answer → Type 0} {held : Option Files} {v : E} {before now : ℕ} {r : Result Reply Exit} {selected : List ℕ} {taken : ℕ}
