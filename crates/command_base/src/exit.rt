@@ -22,18 +22,3 @@ impl From<net_base::Memory> for Exit {
         Exit::Memory
     }
 }
-
-/// What was read, or else the early end, once what was read before it is dropped. Each way out says `drop`: what a scope lets go by
-/// itself is proved part by part.
-#[macro_export]
-macro_rules! or_drop {
-    ($read:expr; $($held:ident),+) => {
-        match $read {
-            Ok(value) => value,
-            Err(exit) => {
-                $(drop($held);)+
-                return Err(exit);
-            }
-        }
-    };
-}

@@ -11,7 +11,6 @@ ghost use Rattle.command_base.specs.Replies.{EndsEarly};
 use crate::exit::Exit;
 use crate::kinds::FileKind;
 use crate::names::PlanNames;
-use crate::or_drop;
 use crate::readings::{read_plan_file, read_topology};
 use certificates::Plan;
 use file_access::Source;
@@ -50,6 +49,11 @@ pub fn read_plan_files<S: Source>(
     ensures later { S.faults source.old ≤ S.faults source.new }
 {
     let net = read_topology(alloc, source, names.topology)?;
-    let plan = or_drop!(read_plan_file(alloc, source, &net, names.plan); net);
-    Ok(PlanFiles { net, plan })
+    match read_plan_file(alloc, source, &net, names.plan) {
+        Ok(plan) => Ok(PlanFiles { net, plan }),
+        Err(exit) => {
+            drop(net);
+            Err(exit)
+        }
+    }
 }

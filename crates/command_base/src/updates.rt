@@ -12,7 +12,6 @@ ghost use Rattle.command_base.specs.Replies.{EndsEarly};
 use crate::exit::Exit;
 use crate::kinds::FileKind;
 use crate::names::UpdateNames;
-use crate::or_drop;
 use crate::readings::{read_configuration, read_policy, read_topology};
 use demands::Demands;
 use file_access::Source;
@@ -55,9 +54,31 @@ pub fn read_update<S: Source>(
     ensures later { S.faults source.old ≤ S.faults source.new }
 {
     let net = read_topology(alloc, source, names.topology)?;
-    let old = or_drop!(read_configuration(alloc, source, FileKind::Old, &net, names.old); net);
-    let new = or_drop!(read_configuration(alloc, source, FileKind::New, &net, names.new); old, net);
-    let demands = or_drop!(read_policy(alloc, source, &net, Some(names.policy)); new, old, net);
+    // Each way out says `drop`: what a scope lets go by itself is proved part by part.
+    let old = match read_configuration(alloc, source, FileKind::Old, &net, names.old) {
+        Ok(old) => old,
+        Err(exit) => {
+            drop(net);
+            return Err(exit);
+        }
+    };
+    let new = match read_configuration(alloc, source, FileKind::New, &net, names.new) {
+        Ok(new) => new,
+        Err(exit) => {
+            drop(old);
+            drop(net);
+            return Err(exit);
+        }
+    };
+    let demands = match read_policy(alloc, source, &net, Some(names.policy)) {
+        Ok(demands) => demands,
+        Err(exit) => {
+            drop(new);
+            drop(old);
+            drop(net);
+            return Err(exit);
+        }
+    };
     Ok(UpdateFiles {
         net,
         old,

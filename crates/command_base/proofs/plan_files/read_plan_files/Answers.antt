@@ -12,9 +12,9 @@ returns-in-Err-clause-stops g c = λ last.
     ends_then _ c.read_topology.ensures.held c.read_topology.ensures.later (c.in_ok-net.ensures.gives last)
     (ends_first _ (c.in-Err.ensures.stops _))
 
-pub returns-clause-gives : goal.returns-clause-gives
+pub returns-in-Ok-clause-gives : goal.returns-in-Ok-clause-gives
 unfolding reading_plan_files
-returns-clause-gives g c = λ last.
+returns-in-Ok-clause-gives g c = λ last.
     gives_then _ c.read_topology.ensures.held (c.in_ok-net.ensures.gives last)
     (gives_then _ c.read_plan_file.ensures.held (c.in-Ok.ensures.gives _)
     (gives_end _ _ _))
