@@ -18,14 +18,14 @@ ghost use Rattle.certify_command.specs.Lines.{cause_line};
 
 use crate::cause_lines::{cause_line, named_class};
 use certificates::laws::certified_consistent;
-use certificates::{Evidence, OrderedEvidence, Plan};
+use certificates::{OrderedEvidence, Plan};
 use check_reasons::Case;
 use command_base::{Reply, Status, UpdateFiles};
 use dest_classes::Class;
 use net_base::Memory;
 use plan_checker::CheckRoom;
 use plan_verdict::{PlanRoom, plan_room};
-use round_certifier::{CertifyFault, Refusal, certify};
+use round_certifier::{CertifyFault, Refusal, certify, with_evidence};
 use std::alloc::Global;
 use topology::Net;
 use upgrade_command::plan_reply;
@@ -49,15 +49,7 @@ fn evidence_reply(
         (λ r. IsCertifiedText (record { update = meaning_of files.now; plan = plan })
         (answer_of r).text) }
 {
-    let Plan {
-        rounds,
-        evidence: given,
-    } = plan;
-    drop(given);
-    let plan = Plan {
-        rounds,
-        evidence: Evidence::Ordered(evidence),
-    };
+    let plan = with_evidence(plan, evidence);
     certified_consistent(&files.net, &files.old, &files.new, &files.demands, &plan);
     let reply = plan_reply(alloc, &files.net, &plan);
     drop(plan);
