@@ -1,17 +1,9 @@
 -- The texts of the ring's files, as JSON trees.
 use Rattle.std.specs.Prelude.{ℕ, ◌+◌, ◌%◌, ◌==◌, List, [], ◌∷◌, ◌++◌, map, flat_map, true, codes, decimal, if◌then◌else◌}
-use Rattle.serde_json.specs.Data.{Data, number, unsigned, boolean, string, array, object, no_members, put}
-use Rattle.serde_json.specs.View.{items_of}
+use Rattle.serde_json.specs.Data.{Data, boolean, string, object, no_members, put}
 use Rattle.net_base.specs.Text.{prefix_text}
+use Rattle.config_files.specs.RuleTrees.{whole_tree, list_tree}
 use Rattle.ring_sample.specs.Ring.{numbers_below, ring_name, destinations, others, ring_prefix}
-
--- a whole number
-abbrev pub whole_tree : ℕ → Data
-whole_tree n = number (unsigned n)
-
--- a list
-abbrev pub list_tree : List Data → Data
-list_tree ds = array (items_of ds)
 
 -- a reference to a port of switch i
 unfoldable pub port_text : ℕ → ℕ → List ℕ

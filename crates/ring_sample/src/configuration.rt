@@ -4,7 +4,8 @@ ghost use Rattle.serde_json.specs.Data.{object, no_members};
 ghost use Rattle.serde_json.specs.View.{view, members_view};
 ghost use Rattle.config_files.specs.Configuration.{configuration_in};
 ghost use Rattle.ring_sample.specs.Ring.{numbers_below, destinations, ring_network, ring_tables};
-ghost use Rattle.ring_sample.specs.RingTrees.{list_tree, rule_tree, configuration_tree};
+ghost use Rattle.config_files.specs.RuleTrees.{list_tree};
+ghost use Rattle.ring_sample.specs.RingTrees.{rule_tree, configuration_tree};
 
 use crate::size::RingSize;
 use crate::topology_text::HOST_PORT;

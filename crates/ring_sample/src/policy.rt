@@ -4,7 +4,8 @@ ghost use Rattle.serde_json.specs.Data.{object, no_members};
 ghost use Rattle.serde_json.specs.View.{view, members_view};
 ghost use Rattle.demands.specs.Policy.{demands_in};
 ghost use Rattle.ring_sample.specs.Ring.{numbers_below, others, ring_network, ring_demands};
-ghost use Rattle.ring_sample.specs.RingTrees.{list_tree, demand_tree, policy_tree};
+ghost use Rattle.config_files.specs.RuleTrees.{list_tree};
+ghost use Rattle.ring_sample.specs.RingTrees.{demand_tree, policy_tree};
 
 use crate::configuration::DESTINATIONS;
 use crate::size::RingSize;

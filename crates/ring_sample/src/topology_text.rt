@@ -4,7 +4,8 @@ ghost use Rattle.serde_json.specs.Data.{string, object, no_members};
 ghost use Rattle.serde_json.specs.View.{view, members_view};
 ghost use Rattle.topology_files.specs.Topology.{network_in};
 ghost use Rattle.ring_sample.specs.Ring.{numbers_below, ring_network};
-ghost use Rattle.ring_sample.specs.RingTrees.{whole_tree, list_tree, switch_tree, link_tree, host_tree, topology_tree};
+ghost use Rattle.config_files.specs.RuleTrees.{whole_tree, list_tree};
+ghost use Rattle.ring_sample.specs.RingTrees.{switch_tree, link_tree, host_tree, topology_tree};
 
 use crate::size::RingSize;
 use crate::values::{name_value, port_value};

@@ -1,16 +1,13 @@
 use Rattle.std.proofs.Common.{Some}
-use Rattle.std.proofs.lemmas.Result.{err_from_is_err_and}
 use Rattle.command_base.specs.declared.kinds.FileKind.TheVariants as kind
 use Rattle.command_base.specs.Dialogues.{file_read}
-use Rattle.command_base.proofs.DialogueLaws.{gives_then, gives_end, ends_first, ends_then}
+use Rattle.command_base.proofs.DialogueLaws.{gives_then, gives_end, ends_first, ends_then, hands_on}
 use Rattle.config_command.specs.Configs.{config_dialogue}
 use Rattle.config_command.proofs.files.read_config_files.Goals as goal
 
 pub returns-in_err-net-clause-stops : goal.returns-in_err-net-clause-stops
 unfolding config_dialogue
-returns-in_err-net-clause-stops g c =
-    let p = err_from_is_err_and c.from_residual.result c.from_residual.ensures.1 in
-    rw (p.1, p.2) (λ last. ends_first _ (c.in_err-net.ensures.stops last))
+returns-in_err-net-clause-stops g c = hands_on _ _ _ (λ last. ends_first _ (c.in_err-net.ensures.stops last)) c.from_residual.ensures
 
 pub returns-in-Err-clause-stops : goal.returns-in-Err-clause-stops
 unfolding config_dialogue
