@@ -1,13 +1,11 @@
-use Rattle.std.proofs.lemmas.Result.{err_from_is_err_and}
 use Rattle.command_base.proofs.DialogueLaws.{ends_first, meets_behind}
+use Rattle.command_base.proofs.WholeLaws.{meets_early}
 use Rattle.import_command.specs.Imported.{import_dialogue}
 use Rattle.import_command.proofs.command.import.Goals as goal
 
 pub returns-in_err-net-clause-meets : goal.returns-in_err-net-clause-meets
 unfolding import_dialogue
-returns-in_err-net-clause-meets g c =
-    let p = err_from_is_err_and c.from_residual.result c.from_residual.ensures.1 in
-    rw (p.1, p.2) (record { met = ends_first _ (c.in_err-net.ensures.stops _) })
+returns-in_err-net-clause-meets g c = meets_early (ends_first _ (c.in_err-net.ensures.stops _)) c.from_residual.ensures
 
 pub returns-clause-meets : goal.returns-clause-meets
 unfolding import_dialogue

@@ -1,11 +1,9 @@
-use Rattle.std.proofs.lemmas.Result.{err_from_is_err_and, IfOk-weaker, IfErr-weaker}
-use Rattle.command_base.proofs.DialogueLaws.{leads_then, ends_first, ends_for_memory}
+use Rattle.std.proofs.lemmas.Result.{IfOk-weaker, IfErr-weaker}
+use Rattle.command_base.proofs.DialogueLaws.{leads_then, ends_first, ends_for_memory, hands_on}
 use Rattle.import_command.proofs.command.import_replies.Goals as goal
 
 pub returns-in_err-config-clause-stops : goal.returns-in_err-config-clause-stops
-returns-in_err-config-clause-stops g c =
-    let p = err_from_is_err_and c.from_residual.result c.from_residual.ensures.1 in
-    rw (p.1, p.2) (λ last. ends_first _ (c.in_err-config.ensures.stops last))
+returns-in_err-config-clause-stops g c = hands_on _ _ _ (λ last. ends_first _ (c.in_err-config.ensures.stops last)) c.from_residual.ensures
 
 pub returns-clause-leads : goal.returns-clause-leads
 returns-clause-leads g c =
