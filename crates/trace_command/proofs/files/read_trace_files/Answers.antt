@@ -1,13 +1,10 @@
-use Rattle.std.proofs.lemmas.Result.{err_from_is_err_and}
-use Rattle.command_base.proofs.DialogueLaws.{gives_then, gives_end, ends_first, ends_then}
+use Rattle.command_base.proofs.DialogueLaws.{gives_then, gives_end, ends_first, ends_then, hands_on}
 use Rattle.trace_command.specs.Traced.{trace_dialogue}
 use Rattle.trace_command.proofs.files.read_trace_files.Goals as goal
 
 pub returns-in_err-net-clause-stops : goal.returns-in_err-net-clause-stops
 unfolding trace_dialogue
-returns-in_err-net-clause-stops g c =
-    let p = err_from_is_err_and c.from_residual.result c.from_residual.ensures.1 in
-    rw (p.1, p.2) (λ last. ends_first _ (c.in_err-net.ensures.stops last))
+returns-in_err-net-clause-stops g c = hands_on _ _ _ (λ last. ends_first _ (c.in_err-net.ensures.stops last)) c.from_residual.ensures
 
 pub returns-in-Err-clause-stops : goal.returns-in-Err-clause-stops
 unfolding trace_dialogue
