@@ -1,25 +1,12 @@
-use Rattle.std.proofs.Common.{sym, ap, ◌∙◌}
-use Rattle.std.proofs.lemmas.Result.{err_from_is_err_and, IfOk-weaker, IfErr-weaker}
-use Rattle.driver_input.specs.Inputs.{inputs_in}
-use Rattle.command_base.specs.declared.kinds.FileKind.TheVariants as kind
-use Rattle.command_base.proofs.DialogueLaws.{gives_meaning, ends_bad, ends_unfetched}
-use Rattle.drive_command.specs.Driven.{input_words}
+use Rattle.command_base.proofs.DialogueLaws.{unfetched, fetched_gives, fetched_stops}
 use Rattle.drive_command.proofs.readings.read_input_file.Goals as goal
 
 pub returns-in_err-bytes-clause-stops : goal.returns-in_err-bytes-clause-stops
-returns-in_err-bytes-clause-stops g c =
-    let p = err_from_is_err_and c.from_residual.result c.from_residual.ensures.1 in
-    rw (p.1, p.2) (λ last. ends_unfetched _ last kind.Input input_words (inputs_in c.args.net.now) c.args.name.now _ _ _ _ _ (c.in_err-bytes.ensures.stops last))
+returns-in_err-bytes-clause-stops g c = unfetched _ _ _ _ _ _ _ _ _ _ c.in_err-bytes.ensures.stops c.from_residual.ensures
 
 pub returns-clause-gives : goal.returns-clause-gives
-returns-clause-gives g c =
-    IfOk-weaker c.inputs_of.result _ _
-    (λ v means last. gives_meaning _ last kind.Input input_words (inputs_in c.args.net.now) c.args.name.now _ v c.in_ok-bytes.ensures.file c.in_ok-bytes.ensures.within (ap (inputs_in c.args.net.now) (sym c.deref.ensures.value) ∙ means))
-    c.inputs_of.ensures.ok
+returns-clause-gives g c = fetched_gives _ _ _ _ _ _ _ c.in_ok-bytes.ensures.file c.in_ok-bytes.ensures.within c.deref.ensures.value c.inputs_of.ensures.ok
 
 pub returns-clause-stops : goal.returns-clause-stops
 returns-clause-stops g c =
-    IfErr-weaker c.inputs_of.result _ _
-    (λ e bad last. ends_bad _ last kind.Input input_words (inputs_in c.args.net.now) c.args.name.now _ _ _ e _ _ c.in_ok-bytes.ensures.file c.in_ok-bytes.ensures.within c.in_ok-bytes.ensures.whole
-    (rw (← c.deref.ensures.value) bad))
-    c.inputs_of.ensures.bad
+    fetched_stops _ _ _ _ _ _ _ _ _ _ c.in_ok-bytes.ensures.file c.in_ok-bytes.ensures.within c.in_ok-bytes.ensures.whole c.deref.ensures.value c.inputs_of.ensures.bad
