@@ -357,7 +357,7 @@ impl Talks {
         requires flag { switch.0 < length self.old.in_force.items }
         requires fits { FitsNext self.old.stage }
         ensures { OnOk result
-            (state_of self.new ≡ heard_on leg.now switch heard_state (state_of self.old)) }
+            (state_of self.new ≡ heard_on leg.now switch heard (state_of self.old)) }
     {
         match heard {
             ByteOutcome::Nothing => Ok(()),
