@@ -10,10 +10,14 @@ mod pack_command_tests;
 #[cfg(test)]
 mod plan_command_tests;
 #[cfg(test)]
+mod planners;
+#[cfg(test)]
 mod retried;
 #[cfg(test)]
 mod ring;
 #[cfg(test)]
 mod sample_command_tests;
+#[cfg(test)]
+mod shared_tests;
 #[cfg(test)]
 mod stuck;

@@ -1,56 +1,15 @@
 //! `pack` over files in memory, and `check` of what it wrote.
+use crate::planners::{Planner, answer_by, are_planned, checked};
 use crate::ring::Ring;
 use crate::{growing, stuck};
-use check_base::CheckNames;
-use check_command::check;
 use command_base::Status;
-use example_files::{
-    Answer, UpdateTexts, answer_of, detour, detour_plans, leaves, none, single, square, triangle,
-    update_names, update_source, wide,
-};
-use pack_command::pack;
+use example_files::{UpdateTexts, detour, leaves, square};
 use std::alloc::Global;
 use std::process::Abort;
 
-/// What is answered, where the call of the given number fails.
-fn packed(rt: &impl Abort, alloc: Global, texts: &UpdateTexts<'_>, failing: u64) -> Answer {
-    let source = update_source(alloc, texts, b"", 4096, failing);
-    let mut source = source.expect(rt, "a source");
-    answer_of(alloc, pack(alloc, &mut source, &update_names()))
-}
-
-/// What `check` answers to the update and the plan.
-fn checked(rt: &impl Abort, alloc: Global, texts: &UpdateTexts<'_>, plan: &[u8]) -> Answer {
-    let source = update_source(alloc, texts, plan, 4096, 0);
-    let mut source = source.expect(rt, "a source");
-    let names = CheckNames {
-        update: update_names(),
-        plan: "plan",
-    };
-    answer_of(alloc, check(alloc, &mut source, &names))
-}
-
-/// Each of the updates is answered so, with its text.
-fn are_answered(rt: &impl Abort, alloc: Global, rows: &[(UpdateTexts<'_>, Status, &[u8])]) {
-    for (i, (texts, want, text)) in rows.iter().enumerate() {
-        let answer = packed(rt, alloc, texts, 0);
-        assert!(rt; answer.is(*want, text), "row {i}");
-    }
-}
-
-/// Each of the updates gets its plan, which is accepted by its line.
-fn are_packed(rt: &impl Abort, alloc: Global, rows: &[(UpdateTexts<'_>, &[u8], &[u8])]) {
-    for (i, (texts, text, line)) in rows.iter().enumerate() {
-        let answer = packed(rt, alloc, texts, 0);
-        assert!(rt; answer.is(Status::Done, text), "row {i}");
-        let verdict = checked(rt, alloc, texts, text);
-        assert!(rt; verdict.is(Status::Done, line), "row {i}");
-    }
-}
-
 /// What is written for the update is accepted by this line.
 fn is_accepted(rt: &impl Abort, alloc: Global, texts: &UpdateTexts<'_>, line: &[u8], row: &str) {
-    let answer = packed(rt, alloc, texts, 0);
+    let answer = answer_by(rt, alloc, Planner::Pack, texts, 0);
     assert!(rt; answer.status == Status::Done, "{row}");
     let verdict = checked(rt, alloc, texts, &answer.text);
     assert!(rt; verdict.is(Status::Done, line), "{row}");
@@ -136,22 +95,6 @@ fn an_insert_waits_for_room(rt: HostRuntime) {
 }
 
 #[test]
-fn the_shorter_plan_is_written(rt: HostRuntime) {
-    let rows: [(UpdateTexts<'_>, Status, &[u8]); 5] = [
-        (square::update(), Status::Done, square::plan()),
-        (square::no_change(), Status::Done, none::no_rounds()),
-        (detour::chain_update(), Status::Done, detour_plans::chain()),
-        (detour::update(), Status::Done, detour_plans::two_phases()),
-        (
-            detour::open_update(),
-            Status::Done,
-            detour_plans::two_phases_after_two_rounds(),
-        ),
-    ];
-    are_answered(&rt, rt.alloc(), &rows);
-}
-
-#[test]
 fn where_one_of_packing_and_the_search_is_stuck_the_other_plans(rt: HostRuntime) {
     let rows: [(UpdateTexts<'_>, &[u8], &[u8]); 2] = [
         (
@@ -165,7 +108,7 @@ fn where_one_of_packing_and_the_search_is_stuck_the_other_plans(rt: HostRuntime)
             b"accepted: ordered, 2 rounds, 6 classes\n",
         ),
     ];
-    are_packed(&rt, rt.alloc(), &rows);
+    are_planned(&rt, rt.alloc(), Planner::Pack, &rows);
 }
 
 #[test]
@@ -194,52 +137,5 @@ fn a_round_has_the_sets_of_all_its_changes(rt: HostRuntime) {
         growing::plan(),
         b"accepted: ordered, 2 rounds, 6 classes\n",
     )];
-    are_packed(&rt, rt.alloc(), &rows);
-}
-
-#[test]
-fn an_update_without_plan_says_why(rt: HostRuntime) {
-    let rows: [(UpdateTexts<'_>, Status, &[u8]); 6] = [
-        (
-            detour::update_of_four_entries(),
-            Status::TooSmall,
-            b"too small: switch s need 5 capacity 4\ntried: []\n",
-        ),
-        (
-            detour::update_of_one_tag(),
-            Status::TooFewTags,
-            b"too few tags: need 2, has 1\ntried: []\n",
-        ),
-        (
-            detour::open_update_without_tags(),
-            Status::TooFewTags,
-            br#"too few tags: need 1, has 0
-tried: [[{"do":"replace","dst":"10.0.0.0/24","out":1,"priority":100,"switch":"w"}],[{"do":"replace","dst":"10.0.0.0/24","out":1,"priority":100,"switch":"y"}]]
-"#,
-        ),
-        (
-            single::untagged_update_with_demand(),
-            Status::TooFewTags,
-            b"too few tags: need 1, has 0\ntried: []\n",
-        ),
-        (
-            triangle::loop_kept(),
-            Status::Refused,
-            b"refused: 1 EndBreaks old at h:1 untagged 10.0.0.0 Loop a\n",
-        ),
-        (
-            triangle::loop_made(),
-            Status::Refused,
-            b"refused: 1 EndBreaks new at h:1 untagged 10.0.0.0 Loop a\n",
-        ),
-    ];
-    are_answered(&rt, rt.alloc(), &rows);
-}
-
-#[test]
-fn a_plan_is_packed_for_at_most_8192_classes(rt: HostRuntime) {
-    let alloc = rt.alloc();
-    let topology = wide::topology(alloc).expect(&rt, "memory");
-    let answer = packed(&rt, alloc, &wide::update(&topology), 0);
-    assert!(rt; answer.is(Status::BadFile, b"too many classes: 12288\n"));
+    are_planned(&rt, rt.alloc(), Planner::Pack, &rows);
 }
