@@ -2,7 +2,7 @@
 """Holds docs/PROVED.md against the crates: prints what the ledger lacks, and what it names that isn't there, and fails where it prints something.
 
 Each crate of crates.txt has a row, but for those of tests alone (NAME_tests), and stands in the picture of docs/MAP.md. Each name that a row has in
-backticks stands in src/ or specs/ of its crate. And each clause of `run` is named in the ledger.
+backticks stands in src/ or specs/ of its crate. And each clause of `run` has a row in the table of the top call.
 """
 import os
 import re
@@ -25,6 +25,12 @@ def rows_in(text):
 def names_in(cell):
     """Returns the names that a cell has in backticks."""
     return [name for quoted in re.findall(r"`([^`]+)`", cell) for name in re.findall(r"[A-Za-z_]\w*", quoted)]
+
+
+def clause_cells(text):
+    """Returns the last cells of the rows of the table of the top call, in one text."""
+    section = text.partition("## The top call")[2].partition("\n## ")[0]
+    return "\n".join(re.findall(r"(?m)^\| .* \| (.*) \|$", section))
 
 
 def text_of(crate):
@@ -52,7 +58,8 @@ def main():
         text = text_of(crate)
         faults += [f"the row of {crate} names {it}, which isn't in its src or specs" for it in names_in(rows[crate]) if not re.search(rf"\b{it}\b", text)]
     clauses = [it for crate in crates for file in os.listdir(f"{ROOT}/crates/{crate}/src") if file.endswith(".rt") for it in clauses_of(read(f"{ROOT}/crates/{crate}/src/{file}"))]
-    faults += [f"the clause {it} of run isn't named" for it in clauses if it not in names_in(ledger)]
+    cells = clause_cells(ledger)
+    faults += [f"the clause {it} of run has no row in the table of the top call" for it in clauses if it not in names_in(cells)]
     print(*[f"ledger: {it}" for it in faults], sep="\n", end="\n" * bool(faults), file=sys.stderr)
     return 1 if faults else 0
 
