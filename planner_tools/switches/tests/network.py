@@ -28,6 +28,11 @@ def planner(*words):
     return subprocess.run([PLANNER, *map(str, words)], capture_output=True, text=True, timeout=LONGEST, check=False).stdout
 
 
+def heed_interrupts():
+    """Has what is begun heed an interrupt also where these tests were begun in the background, with interrupts ignored."""
+    signal.signal(signal.SIGINT, signal.SIG_DFL)
+
+
 def end(run):
     """Ends a run, where it isn't at its end."""
     run.kill()
@@ -58,7 +63,7 @@ class Network:
         """A run of `planner apply`, begun behind these words, with this program."""
         words = [*before, sys.executable, FRONT_END, "apply", *self.files, self.record, "--switches", self.listed, *self.where, *more]
         run = subprocess.Popen([*map(str, words), *([] if {"--wait", "--ask"} & set(more) else ["--wait", "0.05"])], stdin=subprocess.PIPE, stderr=subprocess.PIPE, text=True,
-                               env={**os.environ, "PLANNER": program})
+                               env={**os.environ, "PLANNER": program}, preexec_fn=heed_interrupts)
         self.test.addCleanup(end, run)
         return run
 
