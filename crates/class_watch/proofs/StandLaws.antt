@@ -123,10 +123,6 @@ misses c class set place vlan there here off =
     let at : has set (switch_of c) ≡ true = subst (λ n. has set (record { 0 = n }) ≡ true) (sym here) there in
     not_covered c class place vlan (λ covered. both_ways (may_cover c class && has set (switch_of c)) off (and_from (may_cover c class) (has set (switch_of c)) covered at))
 
--- the one change of a round
-pub meets_one : (round : List Change) (c : Change) (class : Class) (set : ℕ) → round ≡ c ∷ [] → meets_any (c ∷ []) class set ≡ false → meets_any round class set ≡ false
-meets_one round c class set is off = ap (λ cs. meets_any cs class set) is ∙ off
-
 -- where no change covers a header, none of them is among those that do
 none_covering : (h : Header) (changes : List Change) → AllByRecursion (λ c. covers (rule_of c).key.pattern h ≡ false) changes → covering_changes h changes ≡ []
 none_covering h [] off = refl

@@ -126,11 +126,6 @@ module _ (g : Group) (d : Block) (marks : List Mark) (rules : List Rule) (index 
 
 -- ---- the groups that a key's fields meet
 
-vlan_any : (t : VlanTest) → vlans_meet t test.Any ≡ true
-vlan_any test.Any = refl
-vlan_any test.Untagged = refl
-vlan_any (test.Id n) = refl
-
 vlan_other : (t u : VlanTest) → ¬ (u ≡ test.Any) → vlans_meet t u ≡ (vlan_test_eq t test.Any || vlan_test_eq t u)
 vlan_other t test.Any other = absurd (other refl)
 vlan_other test.Any test.Untagged other = refl
@@ -139,11 +134,6 @@ vlan_other (test.Id m) test.Untagged other = refl
 vlan_other test.Any (test.Id n) other = refl
 vlan_other test.Untagged (test.Id n) other = refl
 vlan_other (test.Id m) (test.Id n) other = refl
-
-all_vlans : (p i b : Bool) → (p && (i && true) && b) ≡ (p && (i && true && b))
-all_vlans true true b = refl
-all_vlans true false b = refl
-all_vlans false i b = refl
 
 two_vlans : (p i v w b : Bool) → (p && (i && (v || w) && b)) ≡ ((p && (i && v) && b) || (p && (i && w) && b))
 two_vlans false i v w b = refl
@@ -160,10 +150,6 @@ pub one_vlan : (s : SwitchId) (in_port : Option (Option Port)) (q k : Key) → �
 one_vlan s in_port q k other =
     ap (λ v. q.priority == k.priority && (is_port_of in_port q.pattern.in_port && v && blocks_meet q.pattern.dst k.pattern.dst)) (vlan_other q.pattern.vlan k.pattern.vlan other)
     ∙ two_vlans (q.priority == k.priority) (is_port_of in_port q.pattern.in_port) (vlan_test_eq q.pattern.vlan test.Any) (vlan_test_eq q.pattern.vlan k.pattern.vlan) (blocks_meet q.pattern.dst k.pattern.dst)
-
-port_any : (p : Option Port) → ports_meet p None ≡ true
-port_any None = refl
-port_any (Some p) = refl
 
 port_other : (p o : Option Port) → ¬ (o ≡ None) → ports_meet p o ≡ (in_port_eq p None || in_port_eq p o)
 port_other p None other = absurd (other refl)

@@ -28,15 +28,6 @@ get_some [] i within = absurd (omega arith)
 get_some (x ∷ xs) zero within = (x, refl)
 get_some (x ∷ xs) (suc i) within = get_some xs i (omega arith)
 
--- no rows
-pub no_listing : (m : ConfigMeaning) → IsListing m 0 [] (record { good = 0; free = 0; breaks = 0 })
-no_listing m = record {
-  rows = [];
-  are = record { count_is = refl; each = λ n row e. absurd (let f : None ≡ Some row = e in cc) };
-  text_is = refl;
-  counts_are = refl;
-}
-
 same_counts : (a b : Counts) → a.good ≡ b.good → a.free ≡ b.free → a.breaks ≡ b.breaks → a ≡ b
 same_counts a b good free breaks =
     ap (λ (n : ℕ). let c : Counts = record { good = n; free = a.free; breaks = a.breaks } in c) good

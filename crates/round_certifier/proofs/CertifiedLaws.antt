@@ -43,15 +43,6 @@ use Rattle.round_judge.proofs.EvidenceLaws.{evidence_none, evidence_more, eviden
 use Rattle.round_certifier.specs.Standing.{target_for, ChangesPassTo, IsCertifiedTo}
 use Rattle.round_certifier.proofs.RefusalLaws.{keeps_of}
 
--- what the rounds of a task are for, part by part
-pub aim_is : (t : Task) (net : Network) (new : List (List Rule)) (demands : List DemandView) (classes : ClassList) → net ≡ t.update.net → new ≡ t.update.new → demands ≡ t.update.demands → classes ≡ classes_for t
-    → (let a : Target = record { net = net; new = new; demands = demands; classes = classes } in a) ≡ target_for t
-aim_is t net new demands classes net_is new_is demands_are classes_are =
-    ap (λ (n : Network). record { net = n; new = new; demands = demands; classes = classes }) net_is
-    ∙ ap (λ (ts : List (List Rule)). record { net = t.update.net; new = ts; demands = demands; classes = classes }) new_is
-    ∙ ap (λ (ds : List DemandView). record { net = t.update.net; new = t.update.new; demands = ds; classes = classes }) demands_are
-    ∙ ap (λ (cs : ClassList). record { net = t.update.net; new = t.update.new; demands = t.update.demands; classes = cs }) classes_are
-
 -- what follows where nothing is found, and where something is
 pub when_none : {A : Type 0} (o : Option A) (P : Type 0) → o ≡ None → IfNone o P → P
 when_none o P none h = subst (λ x. IfNone x P) none h

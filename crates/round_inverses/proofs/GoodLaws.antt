@@ -21,9 +21,6 @@ pub inverse_split : (tables : List (List Rule)) (round : List Change) (i : ℕ) 
     → inverse_round tables (drop i round) ≡ inverse_round tables (drop (i + 1) round) ++ inverse_of (rules_at tables (switch_of c)) c ∷ []
 inverse_split tables round i c less at = ap (inverse_round tables) (front round i c less at)
 
-pub round_front : (rounds : List (List Change)) (k : ℕ) → k < length rounds → drop k rounds ≡ round_after k rounds ∷ drop (k + 1) rounds
-round_front rounds k less = drop-cons rounds k [] less ∙ ap (λ (n : ℕ). round_after k rounds ∷ drop n rounds) (sym (add-one k))
-
 -- the rules of a table at its place
 pub rules_got : (tables : List TableState) (i : ℕ) (t : TableState) → slice_get tables i ≡ Some t → get_or (map (λ (x : TableState). x.rules) tables) i [] ≡ t.rules
 rules_got [] i t at = absurd (let f : None ≡ Some t = at in cc)

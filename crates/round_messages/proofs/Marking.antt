@@ -16,22 +16,6 @@ use Rattle.round_messages.specs.Requests.{is_changed, switch_numbered}
 abbrev pub HasChanged : ℕ → List Change → Type 0
 HasChanged set changes = (s : SwitchId) → has set s ≡ is_changed changes s
 
--- and one change more
-pub changed_more : (old new : ℕ) (changes : List Change) (c : Change) → IsTrue (has new (switch_of c)) → ((s : SwitchId) → s.0 ≢ (switch_of c).0 → has new s ≡ has old s)
-    → HasChanged old changes → HasChanged new (changes ++ c ∷ [])
-changed_more old new changes c there others is s =
-    let at : Change → Bool = λ x. eqb (switch_of x).0 s.0 in
-    let more = list_any-append at changes (c ∷ []) in
-    elim (cases_eq s.0 (switch_of c).0) [
-      | inl e ↦ (
-          let same = same_switch s (switch_of c) e in
-          let here : at c ≡ true = eq-eqb (switch_of c).0 s.0 (sym e) in
-          subst (λ (t : SwitchId). has new t ≡ true) (sym same) there ∙ sym (more ∙ or_right (list_any at changes) (list_any at (c ∷ [])) (or_left (at c) false here)))
-      | inr ne ↦ (
-          let off : at c ≡ false = ne_eqb (switch_of c).0 s.0 (λ e. ne (sym e)) in
-          others s ne ∙ is s ∙ sym (more ∙ ap (λ b. list_any at changes || (b || false)) off ∙ or-false (list_any at changes)))
-    ]
-
 -- two tests that agree on the switches
 pub same_passed : (p q : SwitchId → Bool) (a n : ℕ) → ((s : ℕ) → a ≤ s → s < a + n → p (switch_numbered s) ≡ q (switch_numbered s))
     → filter p (map switch_numbered (range_with_len a n)) ≡ filter q (map switch_numbered (range_with_len a n))

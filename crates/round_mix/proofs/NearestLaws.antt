@@ -45,18 +45,6 @@ there_within h marks j e = let (m, at, _) = place_there h marks j e in past_end 
 pub there_of : (h : Header) (marks : List MarkedRule) (j : ℕ) (m : MarkedRule) → j < length marks → m ≡ get_or marks j m → covers_there h marks j ≡ covers m.rule.key.pattern h
 there_of h marks j m within is = ap (λ o. option_map_or (λ (n : MarkedRule). covers n.rule.key.pattern h) o false) (slice_get_read marks (length marks) j m refl within is)
 
--- a position no further than another is near it
-pub near_by : (h : Header) (marks : List MarkedRule) (from k j : ℕ) → k ≤ j → IsNear h marks from (Some k) j
-near_by h marks from k j closer le e = (k, refl, closer)
-
--- where none is found no covering rule is near
-pub near_by_none : (h : Header) (marks : List MarkedRule) (from k j : ℕ) → IsNear h marks from None j → IsNear h marks from (Some k) j
-near_by_none h marks from k j near le e = let (x, is, _) = near le e in absurd (let f : None ≡ Some x = is in cc)
-
--- a closer position is as near
-pub near_closer : (h : Header) (marks : List MarkedRule) (from k i j : ℕ) → k ≤ i → IsNear h marks from (Some i) j → IsNear h marks from (Some k) j
-near_closer h marks from k i j closer near le e = let (x, is, l) = near le e in let same : i ≡ x = cc in (k, refl, omega arith)
-
 slot_there : (f : Pattern → ℕ) (marks : List MarkedRule) (j : ℕ) (m : MarkedRule) → slice_get marks j ≡ Some m → get_or (map f (patterns_in marks)) j 0 ≡ f m.rule.key.pattern
 slot_there f [] j m e = absurd (let g : None ≡ Some m = e in cc)
 slot_there f (n ∷ marks) zero m e = let g : n ≡ m = (let k : Some n ≡ Some m = e in cc) in ap (λ (x : MarkedRule). f x.rule.key.pattern) g

@@ -52,15 +52,6 @@ walked_known u demands k classes came good n on all below m other them less is c
       | inr ge ↦ (let same : n ≡ m = omega arith in (all m other them is came_is (subst (λ (i : ℕ). slice_get good i ≡ Some true) same on)).walks)
     ]
 
--- room for as many
-pub room_put : (map : ClassList) (classes : List Class) (came came_ : List ℕ) (good good_ : List Bool) → HasSurveyRoom map classes came good → length came_ ≡ length came → length good_ ≡ length good → HasSurveyRoom map classes came_ good_
-room_put map classes came came_ good good_ room came_is good_is = record {
-  classes_are = room.classes_are;
-  sets = came_is ∙ room.sets;
-  marks = good_is ∙ room.marks;
-  few = room.few;
-}
-
 -- each class of the map that is marked keeps its duties
 pub good_known : (u : Rollout) (demands : List DemandView) (k : ℕ) (map : ClassList) (classes : List Class) (came : List ℕ) (good : List Bool) → HasSurveyRoom map classes came good → AreKnown u demands k classes came good
     → AreGood u demands k map good

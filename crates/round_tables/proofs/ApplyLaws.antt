@@ -84,11 +84,6 @@ module _ (u : Rollout) (k : ℕ) (less : k < length u.rounds) (within : AreSwitc
     same = λ s off. subst (λ (rs : List Rule). IsMixed rs [] (mix_at q.mixes s)) (sym (rules_next s)) (alone s off);
   }
 
--- a table that has room in all for its rules and the inserts has room for these
-pub inserts_fit : (tables : List TableState) (s : SwitchId) (n : ℕ) (changes : List Change) → length (rules_there tables s) + insert_count changes ≤ n → n ≤ room_of (table_at tables s)
-    → insert_count changes ≤ (table_at tables s).spare
-inserts_fit tables s n changes need room = let same = ap length (rules_in tables s) in omega arith
-
 -- the rules of a switch are the same where its table is
 pub there_same : (a b : List TableState) (s : SwitchId) → table_at a s ≡ table_at b s → rules_there a s ≡ rules_there b s
 there_same a b s e = rules_in a s ∙ ap (λ (t : TableState). t.rules) e ∙ sym (rules_in b s)

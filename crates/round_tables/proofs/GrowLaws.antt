@@ -12,22 +12,6 @@ use Rattle.round_tables.specs.Trials.{HaveRoom}
 abbrev none_there : MixedState
 none_there = record { prepared = None; room = 0; aimed = None }
 
--- where one of them is made anew with so much room
-pub have_set : (rooms : List ℕ) (mixes : List MixedState) (i : ℕ) (room : ℕ) (mixed : MixedState) → HaveRoom rooms mixes → i < length rooms → i < length mixes → room ≤ mixed.room
-    → HaveRoom (set rooms i room) (set mixes i mixed)
-have_set rooms mixes i room mixed had in_rooms in_mixes more s =
-    elim (cases_eq s.0 i) [
-      | inl e ↦
-          let new = get_or-set_at rooms i s.0 room 0 e in_rooms in
-          let now = ap (λ (m : MixedState). m.room) (get_or-set_at mixes i s.0 mixed none_there e in_mixes) in
-          omega arith
-      | inr ne ↦
-          let old = get_or-set_other rooms i s.0 room 0 ne in
-          let before = ap (λ (m : MixedState). m.room) (get_or-set_other mixes i s.0 mixed none_there ne) in
-          let h = had s in
-          omega arith
-    ]
-
 -- where one of them is prepared anew, with no less room
 pub have_kept : (rooms : List ℕ) (mixes new : List MixedState) (s : SwitchId) → HaveRoom rooms mixes → ((o : SwitchId) → o.0 ≢ s.0 → mix_at new o ≡ mix_at mixes o)
     → (mix_at mixes s).room ≤ (mix_at new s).room → HaveRoom rooms new

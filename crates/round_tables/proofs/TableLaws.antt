@@ -59,20 +59,3 @@ started u p fit same on = record {
   fit = λ s less. subst (λ (ts : List (List Rule)). length (rules_at ts s) ≤ limit_at p.limits s) (sym (settled_start u.rounds u.old)) (fit s less);
   same = λ s off. absurd (both_ways (is_touched p.touched s) off (on s.0));
 }
-
--- the room stays where nothing loses any
-pub holds_next : (n : ℕ) (rounds : List (List Change)) (p q : PreparedState) → HoldsRounds n rounds p → length q.tables ≡ length p.tables
-    → ((s : SwitchId) → room_of (table_at q.tables s) ≡ room_of (table_at p.tables s)) → length q.mixes ≡ length p.mixes → ((s : SwitchId) → (mix_at p.mixes s).room ≤ (mix_at q.mixes s).room)
-    → length q.touched ≡ length p.touched → length q.changes ≡ length p.changes → ((s : SwitchId) → (list_at q.changes s).room ≡ (list_at p.changes s).room) → q.limits ≡ p.limits → p.room ≤ q.room
-    → HoldsRounds n rounds q
-holds_next n rounds p q room tables same mixes marks touched lists lent limits sorting = record {
-  few = room.few;
-  tables = tables ∙ room.tables;
-  mixes = mixes ∙ room.mixes;
-  touched = touched ∙ room.touched;
-  lists = lists ∙ room.lists;
-  for_rules = λ s less. let had = room.for_rules s less in let is = ap (λ (ls : List ℕ). limit_at ls s) limits in let now = same s in omega arith;
-  for_marks = λ s k less. let had = room.for_marks s k less in let is = ap (λ (ls : List ℕ). limit_at ls s) limits in let more = marks s in omega arith;
-  for_changes = λ s k less. let had = room.for_changes s k less in let now = lent s in omega arith;
-  for_sorting = λ k. let had = room.for_sorting k in omega arith;
-}

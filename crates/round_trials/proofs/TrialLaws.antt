@@ -44,19 +44,6 @@ trial_first net t space fit none alone = record {
   each = λ s less. subst (λ (cs : List Change). IsMixed (rules_at t.tables s) (changes_at s cs) (mix_at t.mixes s)) (sym none) (alone s less);
 }
 
--- where the last one is prepared too, all are
-pub trial_whole : (net : Network) (s : SwitchId) (p q : TrialState) → IsTrialBeside net s q.round p → HasSpace net q → q.tables ≡ p.tables
-    → ((o : SwitchId) → o.0 ≢ s.0 → mix_at q.mixes o ≡ mix_at p.mixes o) → FitTables net q.tables q.round → IsMixed (rules_at q.tables s) (changes_at s q.round) (mix_at q.mixes s) → IsTrial net q
-trial_whole net s p q beside space tables others fit here = record {
-  space = space;
-  fit = fit;
-  each = λ o less. elim (cases_eq o.0 s.0) [
-    | inl e ↦ subst (λ (x : SwitchId). IsMixed (rules_at q.tables x) (changes_at x q.round) (mix_at q.mixes x)) (sym (switch_is o s e)) here
-    | inr ne ↦ subst (λ (m : MixedState). IsMixed (rules_at q.tables o) (changes_at o q.round) m) (sym (others o ne))
-        (subst (λ (ts : List (List Rule)). IsMixed (rules_at ts o) (changes_at o q.round) (mix_at p.mixes o)) (sym tables) (beside.others o less ne))
-  ];
-}
-
 -- without the last change all switches but its own are prepared
 pub beside_last : (net : Network) (t : TrialState) (round : List Change) (c : Change) → (switch_of c).0 < switch_count net → t.round ≡ round ++ c ∷ [] → IsTrial net t
     → IsTrialBeside net (switch_of c) round t

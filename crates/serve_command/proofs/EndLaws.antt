@@ -45,11 +45,3 @@ ends_refused held d m last old new selected taken status.BadFile gives whole (an
 ends_refused held d m last old new selected taken status.TooFewTags gives whole (answer, says, is, all) = (answer, leads_whole gives says whole, is, all)
 ends_refused held d m last old new selected taken status.TooSmall gives whole (answer, says, is, all) = (answer, leads_whole gives says whole, is, all)
 ends_refused held d m last old new selected taken status.NotARun gives whole (answer, says, is, all) = (answer, leads_whole gives says whole, is, all)
-
-usage_ends_nothing : (text : List (List ℕ) → List ℕ) (input old new : Option (List ℕ)) (taken : ℕ) → EndsServing text input old new taken status.Usage → ⊥
-usage_ends_nothing text input old new taken (inl before) = before
-usage_ends_nothing text input old new taken (inr among) = among.ends
-
--- a driver that is served ends by no wrong words
-pub never_usage : (text : List (List ℕ) → List ℕ) (input old new : Option (List ℕ)) (taken : ℕ) (result : Status) → EndsServing text input old new taken result → result ≢ status.Usage
-never_usage text input old new taken result ends is = usage_ends_nothing text input old new taken (subst (λ (s : Status). EndsServing text input old new taken s) is ends)

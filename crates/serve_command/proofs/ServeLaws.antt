@@ -192,45 +192,10 @@ front_of None left taken p = tt
 front_of (Some all) None taken p = absurd p
 front_of (Some all) (Some rest) taken p = (rest, p)
 
-pub all_of : (input left : Option (List ℕ)) (taken : List ℕ) → Consumes input left taken → IsAtEnd left → AreAll input taken
-all_of None left taken p e = tt
-all_of (Some all) None taken p e = absurd p
-all_of (Some all) (Some rest) taken p e = p ∙ ap (λ (t : List ℕ). taken ++ t) e ∙ append-nil taken
-
-all_front : (input : Option (List ℕ)) (taken : List ℕ) → AreAll input taken → IsFrontOf input taken
-all_front None taken p = tt
-all_front (Some all) taken p = ([], p ∙ sym (append-nil taken))
-
 -- some bytes of the input were taken, and the lines that they end were served
-pub record Taking (v : DriverView) (input left old new : Option (List ℕ)) (counted : ℕ) (d : DriverView) (line : List ℕ) : Type 0 where
-  pub taken : List ℕ
-  pub consumed : Consumes input left taken
-  pub count : counted ≡ raised_count 0 (length taken)
-  pub served : HasServed v old new taken d line
-
-pub taking_none : (v : DriverView) (input old : Option (List ℕ)) (counted : ℕ) (line : List ℕ) → counted ≡ 0 → line ≡ [] → Taking v input input old old counted v line
-taking_none v input old counted line none empty = record {
-  taken = [];
-  consumed = Consumes-nil input;
-  count = none;
-  served = record { driver_is = refl; line_is = empty; written = Appends-nil old };
-}
 
 counted_more : (n m top : ℕ) → min (min (0 + n) top + m) top ≡ min (0 + (n + m)) top
 counted_more n m top = omega arith
-
-pub taking_more : (v : DriverView) (input left behind old now new : Option (List ℕ)) (counted next : ℕ) (d e : DriverView) (line more piece : List ℕ)
-    → (t : Taking v input left old now counted d line) → Consumes left behind piece → next ≡ raised_count counted (length piece) → HasServed v old new (t.taken ++ piece) e more → Taking v input behind old new next e more
-taking_more v input left behind old now new counted next d e line more piece t consumes count served = record {
-  taken = t.taken ++ piece;
-  consumed = Consumes-trans input left behind t.taken piece t.consumed consumes;
-  count = count ∙ ap (λ (k : ℕ). raised_count k (length piece)) t.count ∙ counted_more (length t.taken) (length piece) (2 ^ 64 - 1) ∙ sym (ap (raised_count 0) (length-append t.taken piece));
-  served = served;
-}
-
--- reading failed
-pub ends_unread : (v : DriverView) (input left old new : Option (List ℕ)) (counted next : ℕ) (d : DriverView) (line : List ℕ) → Taking v input left old new counted d line → next ≡ counted → EndsInput (blocks v) input old new next status.ReadFault
-ends_unread v input left old new counted next d line t same = record { taken = t.taken; count = same ∙ t.count; ends = (front_of input left t.taken t.consumed, t.served.written) }
 
 -- memory is wanting behind lines
 pub ends_wanting : (v : DriverView) (input left old new : Option (List ℕ)) (counted : ℕ) (d : DriverView) (line : List ℕ) → Taking v input left old new counted d line → EndsInput (blocks v) input old new counted status.Memory
@@ -245,11 +210,6 @@ pub ends_stopped : (v : DriverView) (input old new : Option (List ℕ)) (taken :
 ends_stopped v input old new taken stop.WriteFault front p = (front, stops_more v old new (ended_lines taken) (last_line (open_line taken)) stop.WriteFault p)
 ends_stopped v input old new taken stop.Memory front p = (front, stops_more v old new (ended_lines taken) (last_line (open_line taken)) stop.Memory p)
 
--- the last line stopped it
-pub ends_last : (v : DriverView) (input old new : Option (List ℕ)) (taken : List ℕ) (s : Stop) → AreAll input taken → StopsAt (blocks v) old new (lines_in taken) s → EndsAfter (blocks v) input old new taken (status_of s)
-ends_last v input old new taken stop.WriteFault all p = (all_front input taken all, p)
-ends_last v input old new taken stop.Memory all p = (all_front input taken all, p)
-
 -- the input is what the source holds under the name, where it tells
 ends_as : (v : DriverView) (input left old new : Option (List ℕ)) (taken : List ℕ) (result : Status) → ((taken : List ℕ) → IsFrontOf left taken → IsFrontOf input taken) → ((taken : List ℕ) → AreAll left taken → AreAll input taken)
     → EndsAfter (blocks v) left old new taken result → EndsAfter (blocks v) input old new taken result
@@ -259,17 +219,9 @@ ends_as v input left old new taken status.WriteFault front all p = (front taken 
 ends_as v input left old new taken status.Memory front all p = (front taken p.0, p.1)
 ends_as v input left old new taken _ front all p = absurd p
 
-pub ends_told : (v : DriverView) (held : Option Files) (left old new : Option (List ℕ)) (counted : ℕ) (result : Status) → Opens held input_name left → EndsInput (blocks v) left old new counted result → EndsInput (blocks v) (input_of held) old new counted result
-ends_told v None left old new counted result opens e = record { taken = e.taken; count = e.count; ends = ends_as v None left old new e.taken result (λ taken p. tt) (λ taken p. tt) e.ends }
-ends_told v (Some files) left old new counted result opens e = subst (λ (x : Option (List ℕ)). EndsInput (blocks v) x old new counted result) opens e
-
 none_front : (input : Option (List ℕ)) → IsFrontOf input []
 none_front None = tt
 none_front (Some all) = (all, refl)
-
--- the input can't be selected
-pub ends_unselected : (v : DriverView) (input old : Option (List ℕ)) (counted : ℕ) → counted ≡ 0 → EndsInput (blocks v) input old old counted status.ReadFault
-ends_unselected v input old counted none = record { taken = []; count = none; ends = (none_front input, Appends-nil old) }
 
 -- ---- the block of line 0
 
@@ -290,11 +242,6 @@ module _ (first : List ℕ) (v : DriverView) (old mid new : Option (List ℕ)) (
 
   pub ends_greeted : (input : Option (List ℕ)) (counted : ℕ) (result : Status) → EndsInput (blocks v) input mid new counted result → EndsServing (λ lines. first ++ blocks v lines) input old new counted result
   ends_greeted input counted result e = inr (record { taken = e.taken; count = e.count; ends = greeted_after input e.taken result e.ends })
-
--- it stops at the block of line 0
-pub ends_greeting : (first : List ℕ) (v : DriverView) (input old new : Option (List ℕ)) (counted : ℕ) (s : Stop) → StopsLine old new first s → EndsServing (λ lines. first ++ blocks v lines) input old new counted (status_of s)
-ends_greeting first v input old new counted stop.WriteFault p = inl (front_more old new first [] p)
-ends_greeting first v input old new counted stop.Memory p = inl p
 
 -- a line of a piece that was taken stopped it
 pub ends_piece : (v : DriverView) (input left behind old now new : Option (List ℕ)) (counted next : ℕ) (d : DriverView) (line piece : List ℕ) (s : Stop) (t : Taking v input left old now counted d line)

@@ -258,10 +258,6 @@ deep_listed net rules lists deep s within =
     let e : 0 + s.0 ≡ s.0 = omega arith in
     ap (λ ls. get_or ls s.0 []) deep.are ∙ at_number (λ s. deep_rules (rules s)) 0 (switch_count net) s.0 within ∙ ap (λ i. deep_rules (rules (numbered i))) e
 
-pub all_deep : (net : Network) (rules : SwitchId → List Rule) → ((s : SwitchId) → IsTable (rules s)) → (lists : List (List DeepRule)) (n : ℕ) → n ≡ switch_count net
-    → lists ≡ map (λ s. deep_rules (rules s)) (first_switches n) → AreDeep net rules lists
-all_deep net rules tables lists n e h = record { tables = tables; are = h ∙ ap (λ k. map (λ s. deep_rules (rules s)) (first_switches k)) e }
-
 -- the greatest depth of one list more
 pub greatest_listed : {V : Type 0} (f : V → List DeepRule) (vs : List V) (i : ℕ) (v d : V) → i < length vs → v ≡ get_or vs i d → (now next : ℕ) → now ≡ greatest (flat_map (λ x. depths_in (f x)) (take i vs))
     → next ≡ greatest (now ∷ depths_in (f v)) → next ≡ greatest (flat_map (λ x. depths_in (f x)) (take (i + 1) vs))
