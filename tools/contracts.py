@@ -1,6 +1,7 @@
 #!/usr/bin/env python3
 """Counts, crate by crate, the lines of contracts that are longer than 100 columns and the functions of more than six arguments, and holds them
-against tools/long_contracts.txt: a crate that isn't listed there has none, and one that is listed has no more than it says.
+against tools/long_contracts.txt: a crate that isn't listed there has none, and one that is listed has no more than it says. Contracts are clauses,
+and what contracts see of a type and keep of it (its ghost view and invariant).
 
     tools/contracts.py            prints each such line and function
     tools/contracts.py --check    prints where a crate has more, or fewer, than is listed, and fails where it prints something
@@ -13,8 +14,8 @@ import sys
 ROOT = os.path.dirname(os.path.dirname(os.path.realpath(__file__)))
 LISTED = f"{ROOT}/tools/long_contracts.txt"
 MOST_COLUMNS, MOST_ARGUMENTS = 100, 6
-CLAUSE = re.compile(r"\s*(requires|ensures)\*?\b.*\{")
-FUNCTION = re.compile(r"\bfn\s+(\w+)\s*(?:<[^(]*>)?\(")
+CLAUSE = re.compile(r"\s*((requires|ensures)\*?|ghost (view|invariant))\b.*\{")
+FUNCTION = re.compile(r"\bfn\s+(\w+)\s*(?=[<(])")
 
 
 def long_lines(code):
@@ -44,10 +45,21 @@ def arguments_of(code, start):
     return count + (not is_empty)
 
 
+def behind_generics(code, start):
+    """Returns where the bracket of the arguments opens: behind the type parameters, if there are some at `start`, whose bounds may hold brackets too."""
+    depth = 0
+    for at in range(start, len(code)):
+        if code[at] == "(" and depth == 0:
+            return at
+        # the `>` of an arrow closes nothing
+        depth += (code[at] == "<") - (code[at] == ">" and code[at - 1] != "-")
+    return len(code)
+
+
 def wide_functions(code):
     """Returns the names of the functions of too many arguments."""
     bare = re.sub(r"//[^\n]*", "", code)
-    return [it[1] for it in FUNCTION.finditer(bare) if arguments_of(bare, it.end()) > MOST_ARGUMENTS]
+    return [it[1] for it in FUNCTION.finditer(bare) if arguments_of(bare, behind_generics(bare, it.end()) + 1) > MOST_ARGUMENTS]
 
 
 def sources(crate):

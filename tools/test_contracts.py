@@ -26,15 +26,21 @@ fn two(
 ) {}
 
 fn none() {}
+
+fn three<A: AllocGlobal, F: Fn(u64, u64) -> u64>(alloc: A, a: u8, b: u8, c: u8, d: u8, e: u8, f: F) -> u8 {}
+
+impl Model for Four {
+    ghost view = { λ f. """ + "4" * 100 + """ };
+}
 """
 
 
 class Counted(unittest.TestCase):
     def test_only_lines_of_clauses_count(self):
-        self.assertEqual(contracts.long_lines(CODE), [3, 6])
+        self.assertEqual(contracts.long_lines(CODE), [3, 6, 27])
 
     def test_a_function_has_the_arguments_between_its_own_commas(self):
-        self.assertEqual(contracts.wide_functions(CODE), ["two"])
+        self.assertEqual(contracts.wide_functions(CODE), ["two", "three"])
         self.assertEqual([contracts.arguments_of(text, 1) for text in ("()", "(a: u8)", "(a: u8, b: fn(u8, u8) -> u8,)")], [0, 1, 2])
 
 
