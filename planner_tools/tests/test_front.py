@@ -28,6 +28,7 @@ COMMANDS = [
     "config topology.json old.json", "config topology.json new.json policy.json", "plan topology.json old.json new.json policy.json",
     "plan topology.json new.json old.json policy.json", "plan topology.json old.json old.json policy.json",
     "check topology.json old.json new.json policy.json plan.json", "check topology.json new.json old.json policy.json plan.json",
+    "certify topology.json old.json new.json policy.json plan.json", "pack topology.json old.json new.json policy.json",
     "explain topology.json old.json new.json policy.json plan.json", "simulate topology.json old.json new.json policy.json plan.json 7 100",
     "simulate topology.json new.json old.json policy.json plan.json 7 100", "upgrade topology.json plan.json", "emit topology.json plan.json",
     "replay topology.json old.json plan.json none", "import topology.json plan.json", "drive topology.json old.json new.json policy.json plan.json README.md",

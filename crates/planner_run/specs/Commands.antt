@@ -4,37 +4,36 @@ use Rattle.std.specs.Str.{bytes_eq}
 use Rattle.command_base.specs.declared.status.Status.TheVariants as status
 use Rattle.command_base.specs.Answers.{Answer}
 use Rattle.command_base.specs.Dialogues.{Dialogue, Ends, and_then}
-use Rattle.command_base.specs.Names as base
-use Rattle.command_base.specs.Names.{UpdateNames, PlanNames}
-use Rattle.command_base.specs.Readings.{reading_update, reading_plan_files}
-use Rattle.certificates.specs.Updates.{Update}
-use Rattle.command_base.specs.Updates.{PlanMeaning}
 use Rattle.config_command.specs.Names as config
-use Rattle.config_command.specs.Configs.{ConfigMeaning, config_dialogue, IsConfigAnswer}
-use Rattle.paths_command.specs.Listed.{IsPathsAnswer}
 use Rattle.check_base.specs.Names as check
+use Rattle.command_base.specs.Names as base
+use Rattle.replay_command.specs.Names as replay
+use Rattle.trace_command.specs.Names as trace
+use Rattle.simulate_command.specs.Names as simulate
+use Rattle.import_command.specs.Names as imports
+use Rattle.drive_command.specs.Names as drive
+use Rattle.sample_command.specs.Sizes as sample
+use Rattle.config_command.specs.Configs.{ConfigMeaning, config_dialogue, IsConfigAnswer}
 use Rattle.check_base.specs.Checks.{CheckMeaning, check_dialogue}
+use Rattle.certificates.specs.Updates.{Update}
+use Rattle.command_base.specs.Readings.{reading_update, reading_plan_files}
+use Rattle.command_base.specs.Updates.{PlanMeaning}
+use Rattle.replay_command.specs.Replayed.{ReplayMeaning, replay_dialogue, IsReplayAnswer}
+use Rattle.trace_command.specs.Traced.{TraceMeaning, trace_dialogue, IsTraceAnswer}
+use Rattle.import_command.specs.Imported.{ImportMeaning, import_dialogue, IsImportAnswer}
+use Rattle.drive_command.specs.Driven.{DriveMeaning, drive_dialogue, IsDriveAnswer}
+use Rattle.paths_command.specs.Listed.{IsPathsAnswer}
 use Rattle.check_command.specs.Checks.{IsCheckAnswer}
 use Rattle.certify_command.specs.Answers.{IsCertifyAnswer}
 use Rattle.plan_command.specs.Planned.{IsPlanned}
 use Rattle.pack_command.specs.Packed.{IsPacked}
-use Rattle.replay_command.specs.Names as replay
-use Rattle.replay_command.specs.Replayed.{ReplayMeaning, replay_dialogue, IsReplayAnswer}
-use Rattle.tables_command.specs.Listed.{IsTablesAnswer}
-use Rattle.trace_command.specs.Names as trace
-use Rattle.trace_command.specs.Traced.{TraceMeaning, trace_dialogue, IsTraceAnswer}
-use Rattle.simulate_command.specs.Names as simulate
-use Rattle.simulate_command.specs.Simulated.{IsSimulateAnswer}
-use Rattle.sample_command.specs.Sizes as sample
-use Rattle.sample_command.specs.Summaries.{SaysSummary}
 use Rattle.upgrade_command.specs.Texts.{IsUpgradeAnswer}
 use Rattle.emit_command.specs.Answers.{IsEmitAnswer}
-use Rattle.import_command.specs.Names as imports
-use Rattle.import_command.specs.Imported.{ImportMeaning, import_dialogue, IsImportAnswer}
+use Rattle.tables_command.specs.Listed.{IsTablesAnswer}
+use Rattle.simulate_command.specs.Simulated.{IsSimulateAnswer}
 use Rattle.explain_command.specs.Explained.{IsExplainAnswer}
-use Rattle.drive_command.specs.Names as drive
-use Rattle.drive_command.specs.Driven.{DriveMeaning, drive_dialogue, IsDriveAnswer}
 use Rattle.serve_command.specs.Serving.{SaysRefusal}
+use Rattle.sample_command.specs.Summaries.{SaysSummary}
 use Rattle.planner_run.specs.declared.command.Command.{Command}
 use Rattle.planner_run.specs.declared.command.Command.TheVariants as command
 use Rattle.planner_run.specs.declared.command.CommandName.{CommandName}
@@ -46,10 +45,10 @@ pub data Asked : Type 0 where
   Paths : config.ConfigNames → Asked
   Check : check.CheckNames → Asked
   Certify : check.CheckNames → Asked
-  Plan : UpdateNames → Asked
-  Pack : UpdateNames → Asked
-  Upgrade : PlanNames → Asked
-  Emit : PlanNames → Asked
+  Plan : base.UpdateNames → Asked
+  Pack : base.UpdateNames → Asked
+  Upgrade : base.PlanNames → Asked
+  Emit : base.PlanNames → Asked
   Replay : replay.ReplayNames → Asked
   Tables : replay.ReplayNames → Asked
   Trace : trace.TraceNames → Asked

@@ -17,10 +17,10 @@ use trace_command::{TraceNames, trace_names};
 pub enum Command<'a> {
     Config(ConfigNames<'a>),
     Paths(ConfigNames<'a>),
-    Pack(UpdateNames<'a>),
     Check(CheckNames<'a>),
     Certify(CheckNames<'a>),
     Plan(UpdateNames<'a>),
+    Pack(UpdateNames<'a>),
     Upgrade(PlanNames<'a>),
     Emit(PlanNames<'a>),
     Replay(ReplayNames<'a>),

@@ -4,34 +4,34 @@ ghost use Rattle.std.specs.Io.KnownBytes.{Appends, Keeps};
 ghost use Rattle.file_access.specs.Causes.{Rose};
 ghost use Rattle.file_access.specs.Outside.{Files, AppendsFront, IsMissing};
 ghost use Rattle.command_base.specs.Dialogues.{Lacks};
-ghost use Rattle.command_base.specs.Names.{UpdateNames, PlanNames};
 ghost use Rattle.command_base.specs.Replies.{Meets};
 ghost use Rattle.command_base.specs.Runs.{IsComplete, EndsAs, AnswersAll, AnswersFront};
+ghost use Rattle.check_base.specs.Checks.{check_dialogue};
+ghost use Rattle.serve_command.specs.Serving.{IsServeEnd};
+ghost use Rattle.serve_command.specs.Stops.{input_name};
 ghost use Rattle.config_command.specs.Names.{ConfigNames};
+ghost use Rattle.check_base.specs.Names.{CheckNames};
+ghost use Rattle.command_base.specs.Names.{UpdateNames, PlanNames};
+ghost use Rattle.replay_command.specs.Names.{ReplayNames};
+ghost use Rattle.trace_command.specs.Names.{TraceNames};
+ghost use Rattle.simulate_command.specs.Names.{SimulateNames};
+ghost use Rattle.import_command.specs.Names.{ImportNames};
+ghost use Rattle.drive_command.specs.Names.{DriveNames};
 ghost use Rattle.config_command.specs.Promise.{ConfigPromise};
 ghost use Rattle.paths_command.specs.Promise.{PathsPromise};
-ghost use Rattle.check_base.specs.Names.{CheckNames};
-ghost use Rattle.check_base.specs.Checks.{check_dialogue};
 ghost use Rattle.check_command.specs.Promise.{CheckPromise};
 ghost use Rattle.certify_command.specs.Promise.{CertifyPromise};
 ghost use Rattle.plan_command.specs.Promise.{PlanPromise};
 ghost use Rattle.pack_command.specs.Promise.{PackPromise};
 ghost use Rattle.upgrade_command.specs.Promise.{UpgradePromise};
 ghost use Rattle.emit_command.specs.Promise.{EmitPromise};
-ghost use Rattle.replay_command.specs.Names.{ReplayNames};
 ghost use Rattle.replay_command.specs.Promise.{ReplayPromise};
 ghost use Rattle.tables_command.specs.Promise.{TablesPromise};
-ghost use Rattle.trace_command.specs.Names.{TraceNames};
 ghost use Rattle.trace_command.specs.Promise.{TracePromise};
-ghost use Rattle.simulate_command.specs.Names.{SimulateNames};
 ghost use Rattle.simulate_command.specs.Promise.{SimulatePromise};
 ghost use Rattle.explain_command.specs.Promise.{ExplainPromise};
-ghost use Rattle.import_command.specs.Names.{ImportNames};
 ghost use Rattle.import_command.specs.Promise.{ImportPromise};
-ghost use Rattle.drive_command.specs.Names.{DriveNames};
 ghost use Rattle.drive_command.specs.Promise.{DrivePromise};
-ghost use Rattle.serve_command.specs.Serving.{IsServeEnd};
-ghost use Rattle.serve_command.specs.Stops.{input_name};
 ghost use Rattle.serve_promise.specs.Promise.{ServePromise};
 ghost use Rattle.sample_command.specs.Promise.{SamplePromise};
 ghost use Rattle.planner_run.specs.Commands.{Config, Paths, Check, Certify, Plan, Pack, Upgrade, Emit, Replay, Tables, Trace, Simulate, Explain, Import, Drive, Serve, Sample, AsksToServe, NamesNoFile, asked_command, asked_view, dialogue, dialogue_of, IsSaid, usage_line};
@@ -234,7 +234,6 @@ pub fn run<S: Source, K: Sink>(
     ensures config { (files : Files) (names : ConfigNames) → S.held source.old ≡ Some files
         → asked_command (map string_bytes words.now) ≡ Some (Config names)
         → ConfigPromise files names (K.written sink.old) (K.written sink.new) result }
-
     ensures paths { (files : Files) (names : ConfigNames) → S.held source.old ≡ Some files
         → asked_command (map string_bytes words.now) ≡ Some (Paths names)
         → PathsPromise files names (K.written sink.old) (K.written sink.new) result }

@@ -37,8 +37,7 @@ pub returns-in-Trace-clause-meets : goal.returns-in-Trace-clause-meets
 returns-in-Trace-clause-meets g c = rw c.in-Trace.is (meets_as IsSaid OfTrace (λ m answer said. said) c.trace.ensures.meets)
 
 pub returns-in-Simulate-clause-meets : goal.returns-in-Simulate-clause-meets
-returns-in-Simulate-clause-meets g c =
-    rw c.in-Simulate.is (meets_as IsSaid (OfSimulate c.in-Simulate.names.start c.in-Simulate.names.count) (λ m answer said. said) c.simulate.ensures.meets)
+returns-in-Simulate-clause-meets g c = rw c.in-Simulate.is (meets_as IsSaid (OfSimulate c.in-Simulate.names.start c.in-Simulate.names.count) (λ m answer said. said) c.simulate.ensures.meets)
 
 pub returns-in-Explain-clause-meets : goal.returns-in-Explain-clause-meets
 returns-in-Explain-clause-meets g c = rw c.in-Explain.is (meets_as IsSaid OfExplain (λ m answer said. said) c.explain.ensures.meets)

@@ -1,25 +1,25 @@
 use Rattle.std.proofs.Common.{map, string_bytes, sym, subst}
 use Rattle.std.specs.Prelude.{Option}
 use Rattle.file_access.specs.Outside.{Files}
-use Rattle.command_base.specs.Readings.{reading_update, reading_plan_files}
 use Rattle.command_base.proofs.RunLaws.{answered_as, ends_at_once}
+use Rattle.serve_command.specs.Serving.{IsServeEnd}
 use Rattle.config_command.specs.Configs.{config_dialogue, IsConfigAnswer}
-use Rattle.paths_command.specs.Listed.{IsPathsAnswer}
 use Rattle.check_base.specs.Checks.{check_dialogue}
+use Rattle.command_base.specs.Readings.{reading_update, reading_plan_files}
+use Rattle.replay_command.specs.Replayed.{replay_dialogue, IsReplayAnswer}
+use Rattle.trace_command.specs.Traced.{trace_dialogue, IsTraceAnswer}
+use Rattle.import_command.specs.Imported.{import_dialogue, IsImportAnswer}
+use Rattle.drive_command.specs.Driven.{drive_dialogue, IsDriveAnswer}
+use Rattle.paths_command.specs.Listed.{IsPathsAnswer}
 use Rattle.check_command.specs.Checks.{IsCheckAnswer}
 use Rattle.certify_command.specs.Answers.{IsCertifyAnswer}
 use Rattle.plan_command.specs.Planned.{IsPlanned}
 use Rattle.pack_command.specs.Packed.{IsPacked}
-use Rattle.replay_command.specs.Replayed.{replay_dialogue, IsReplayAnswer}
-use Rattle.tables_command.specs.Listed.{IsTablesAnswer}
-use Rattle.trace_command.specs.Traced.{trace_dialogue, IsTraceAnswer}
-use Rattle.simulate_command.specs.Simulated.{IsSimulateAnswer}
-use Rattle.explain_command.specs.Explained.{IsExplainAnswer}
 use Rattle.upgrade_command.specs.Texts.{IsUpgradeAnswer}
 use Rattle.emit_command.specs.Answers.{IsEmitAnswer}
-use Rattle.import_command.specs.Imported.{import_dialogue, IsImportAnswer}
-use Rattle.drive_command.specs.Driven.{drive_dialogue, IsDriveAnswer}
-use Rattle.serve_command.specs.Serving.{IsServeEnd}
+use Rattle.tables_command.specs.Listed.{IsTablesAnswer}
+use Rattle.simulate_command.specs.Simulated.{IsSimulateAnswer}
+use Rattle.explain_command.specs.Explained.{IsExplainAnswer}
 use Rattle.sample_command.specs.Summaries.{SaysSummary}
 use Rattle.planner_run.specs.Commands.{Config, Paths, Check, Certify, Plan, Pack, Upgrade, Emit, Replay, Tables, Trace, Simulate, Explain, Import, Drive, Sample, OfConfig, OfPaths, OfCheck, OfCertify, OfPlan, OfPack, OfUpgrade, OfEmit, OfReplay, OfTables, OfTrace, OfSimulate, OfExplain, OfImport, OfDrive, OfSample, NamesNoFile, IsSaid}
 use Rattle.planner_run.proofs.Answered.{answered, unserved, ended}

@@ -1,0 +1,76 @@
+"""Tests of commands.py: how a template is filled, that the files of planner_run are what it writes, and that no command is left out elsewhere."""
+import glob
+import os
+import re
+import unittest
+
+import command_table
+import commands
+
+ROWS = tuple(it for it in command_table.ROWS if it.name in ("check", "simulate", "serve", "sample"))
+
+
+class Templates(unittest.TestCase):
+    def test_a_block_stands_once_for_each_command_of_its_kind(self):
+        template = "first %Names%\n@each reads %Name%(\n@each reads )\n@each reads_none %name%\nlast\n"
+        self.assertEqual(commands.written(template, ROWS), "first Check, Simulate, Serve, Sample\nCheck(\n)\nSimulate(\n)\nServe(\n)\nsample\nlast\n")
+
+    def test_numbers_among_the_names_are_given_to_the_answer(self):
+        template = "@each answers Of%Name% : %before%%Meaning%; %Answer%; %OfIn%; %dialogue%; (λ %m%. Of%Name% %given%%m%)\n"
+        self.assertEqual(commands.written(template, ROWS).splitlines(), [
+            "OfCheck : CheckMeaning; IsCheckAnswer; OfCheck; check_dialogue names; (λ m. OfCheck m)",
+            "OfSimulate : ℕ → ℕ → CheckMeaning; (IsSimulateAnswer names.start names.count); "
+            "(OfSimulate c.in-Simulate.names.start c.in-Simulate.names.count); check_dialogue names.check; (λ m. OfSimulate names.start names.count m)",
+        ])
+
+    def test_a_definition_is_imported_once(self):
+        pairs = [("one.Names", "A"), ("two.Names", "B"), ("one.Names", "C"), ("one.Names", "A")]
+        self.assertEqual(commands.imports(pairs), "use Rattle.one.specs.Names.{A, C}\nuse Rattle.two.specs.Names.{B}")
+
+    def test_the_libraries_are_those_of_the_commands(self):
+        self.assertEqual(
+            commands.with_libraries("one: two\nplanner_run: old\nplanner_cli: planner_run\n", ROWS),
+            "one: two\nplanner_run: file_access certificates command_base check_base check_command simulate_command serve_command serve_promise "
+            "sample_command\nplanner_cli: planner_run\n",
+        )
+
+
+# Where each command has to be named, and how: in its crate of tests, through the top call, in the documents, in the tests of the front end, and among
+# the runs that are attacked.
+PLACES = {
+    "crates.txt": r"(?m)^\w+_tests:.* %s_command\b",
+    "crates/planner_run_tests/src/tests.rt": r'"%s[" ]',
+    "docs/FORMATS.md": r"`%s[` ]",
+    "docs/TOUR.md": r"\bplanner %s\b",
+    "planner_tools/**/tests/*.py": r'"%s[" ]',
+    "reliability/*.py": r'"%s"',
+}
+
+
+def text_of(pattern):
+    """Returns the texts of all files that the pattern names, one behind the other."""
+    texts = []
+    for path in sorted(glob.glob(os.path.join(commands.ROOT, pattern), recursive=True)):
+        with open(path, encoding="utf-8") as file:
+            texts.append(file.read())
+    return "\n".join(texts)
+
+
+class Repository(unittest.TestCase):
+    def test_no_command_is_left_out(self):
+        for place, pattern in PLACES.items():
+            text = text_of(place)
+            for row in command_table.ROWS:
+                with self.subTest(place=place, command=row.name):
+                    self.assertTrue(re.search(pattern.replace("%s", row.name), text), f"{place} has nothing of {row.name}")
+
+    def test_the_files_are_what_is_written(self):
+        self.assertEqual(commands.main(["--check"]), 0)
+
+    def test_each_command_of_the_table_is_one_of_the_front_end(self):
+        from test_words import words
+        self.assertEqual({it.name for it in command_table.ROWS}, {it.name for it in words.PROVED})
+
+
+if __name__ == "__main__":
+    unittest.main()
