@@ -1,5 +1,5 @@
 #!/usr/bin/env python3
-"""Makes docs/HEADLINE.md: all definitions on which the headline rests, a field of the promises of `check` and of `serve`, copied from the crates; and the counts in README.md.
+"""Makes docs/HEADLINE.md: the definitions on which the headline rests, a field of the promises of `check` and of `serve`, copied from the crates; and the counts in README.md.
 
     tools/headline.py             writes the page and the counts, and prints these
     tools/headline.py --check     writes nothing, and fails where the page or the counts are not what this script makes
@@ -35,7 +35,7 @@ HEAD = """# The definitions of the headline
 
 > While `planner serve` answers for such a plan, the update may at any moment be turned back, also in the middle of a round, and forward again: in every such run the same holds of every packet.
 
-This page has every definition on which the sentences rest, from their words down to numbers and lists. In each part a file stands before those that it rests on, and a definition before those of its file that it is made of; what an earlier part has isn't repeated. `tools/headline.py` copies them from the crates and counts them, and the test command fails where the page is not what the script makes. [THEOREMS.md](THEOREMS.md) leads from the words of the sentences to the first of them, and states the premises.
+This page has the definitions on which the sentences rest, from their words down to numbers and lists: of runs and good traces, of certified plans, of what the bytes of files mean, and of runs both ways. Not on it, since they say nothing of packets, are how the words of the command line name the files (`asked_command` in crates/planner_run/specs/Commands.antt), the records of which the sentences are fields (`keeps` of `CheckPromise` in crates/check_command/specs/Promise.antt, `both_ways` of `ServePromise` in crates/serve_promise/specs/Promise.antt), and what `serve` answers to each line (crates/serve_command/specs, crates/serve_lines/specs). In each part a file stands before those that it rests on, and a definition before those of its file that it is made of; what an earlier part has isn't repeated. `tools/headline.py` copies them from the crates and counts them, and the test command fails where the page is not what the script makes. [THEOREMS.md](THEOREMS.md) leads from the words of the sentences to the first of them, and states the premises.
 """
 NOTATION = """## How to read it
 
