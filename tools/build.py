@@ -340,12 +340,12 @@ def alone(root, voice):
 
 
 def other_toolchain(root):
-    """Returns a sentence where `rt version` isn't what toolchain.txt names, or None."""
-    wanted = next((line.split(" ", 1)[1].strip() for line in read_lines(f"{root}/toolchain.txt") if line.startswith("rattle ")), None)
+    """Returns a sentence where what `rt version` prints is none of the toolchains that toolchain.txt names, or None."""
+    wanted = [line.partition("#")[0].split(" ", 1)[1].strip() for line in read_lines(f"{root}/toolchain.txt") if line.startswith("rattle ")]
     found = subprocess.run(["rt", "version"], capture_output=True, text=True, check=False).stdout.strip() if wanted else None
-    if not found or wanted == found:
+    if not found or found in wanted:
         return None
-    return f"the toolchain on this machine is {found}; the repository was proved with {wanted}, and with another one proofs may fail"
+    return f"the toolchain on this machine is {found}; the repository was proved with {' and with '.join(wanted)}, and with another one proofs may fail"
 
 
 def read_lines(path):

@@ -58,7 +58,7 @@ def library_version(path):
 
 def dependencies(path):
     newest = library_version(path)
-    return ", ".join([f"libc6 (>= {newest})"] * bool(newest) + [f"python3 (>= {toolchain.versions()['python']})"])
+    return ", ".join([f"libc6 (>= {newest})"] * bool(newest) + [f"python3 (>= {toolchain.python()})"])
 
 
 def control(built, size):

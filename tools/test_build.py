@@ -225,12 +225,13 @@ class Builds(unittest.TestCase):
         self.assertEqual((status, asked, said[-1]), (0, ["base", "left", "right", "top", "right"], "planner: built, 0 minutes"))
 
     def test_another_toolchain_is_told(self):
-        for named, words in (("other", "planner: the toolchain on this machine is kit; the repository was proved with other, and with another one proofs may fail"), ("kit", None)):
+        told = "planner: the toolchain on this machine is kit; the repository was proved with {}, and with another one proofs may fail"
+        for named, words in ((["other"], told.format("other")), (["other", "third"], told.format("other and with third")), (["kit"], None), (["other", "kit"], None)):
             with open(f"{self.root}/toolchain.txt", "w") as it:
-                it.write(f"# with what it is proved\nrattle {named}\npython 3.10\n")
+                it.write("# with what it is proved\n" + "".join(f"rattle {one}\n" for one in named) + "python 3.10\n")
             status, said, _ = self.build()
             self.assertEqual(status, 0)
-            self.assertEqual(said[0] == words, words is not None, said)
+            self.assertEqual([line for line in said if line.startswith("planner: the toolchain")], [words] * bool(words), said)
 
     def test_a_crate_that_fails_is_named_with_what_rt_said(self):
         self.write("left", "", "bad")

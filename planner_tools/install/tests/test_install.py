@@ -97,7 +97,7 @@ class Install(Installed):
         said = run("dpkg-deb", "--field", package).stdout
         self.assertIn(f"Version: {VERSION}\n", said)
         self.assertIn(toolchain.origin(program.path()), " ".join(said.split()))
-        self.assertIn(f"python3 (>= {toolchain.versions()['python']})", said)
+        self.assertIn(f"python3 (>= {toolchain.python()})", said)
         empty = self.folder / "empty"
         run("dpkg-deb", "-x", package, empty)
         self.check_files(empty / "usr")
