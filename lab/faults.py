@@ -45,9 +45,9 @@ HERE = pathlib.Path(__file__).resolve().parent
 sys.path[:0] = [str(HERE), str(HERE.parent)]
 import traffic
 from between import Between
+from planner_tools import program
 
 FRONT_END = HERE.parent / "planner"
-PROGRAM = os.environ.get("PLANNER") or str(HERE.parent / "crates/planner_cli/out/planner_cli")
 # No run takes longer, in seconds.
 LONGEST = 300
 
@@ -92,7 +92,7 @@ class Lab:
     def begin(self, *more, record=None, listed=None, before=(), wait=None):
         words = [*before, sys.executable, "-B", FRONT_END, "apply", *self.files, record or self.record, "--switches", listed or self.listed,
                  "--wait", wait or self.wait, *more]
-        return subprocess.Popen([str(one) for one in words], stderr=subprocess.PIPE, text=True, env={**os.environ, "PLANNER": PROGRAM})
+        return subprocess.Popen([str(one) for one in words], stderr=subprocess.PIPE, text=True, env={**os.environ, "PLANNER": program.path()})
 
     def end_of(self, run):
         """Its exit status and what it said."""
@@ -169,7 +169,7 @@ def made_by(commands):
     """Returns what makes a plan of an update: the first of these commands that the program has."""
     def make(files):
         for command in commands:
-            done = subprocess.run([PROGRAM, command, *files], capture_output=True, text=True, check=False)
+            done = subprocess.run([program.path(), command, *files], capture_output=True, text=True, check=False)
             if done.returncode != 2:
                 break
         if done.returncode != 0:

@@ -3,7 +3,7 @@ import hashlib
 import os
 import subprocess
 
-from planner_tools import program
+from planner_tools import program, shipped
 
 FILE = "toolchain.txt"
 
@@ -43,7 +43,11 @@ def difference(root=program.ROOT):
 
 
 def origin(built):
-    """A sentence on where a program comes from. That it was proved is said of the one alone that the checkout built with one of its own toolchains."""
+    """A sentence on where a program comes from. That it was proved is said of those alone that one of the checkout's own toolchains built from its files:
+    the one of dist/, where its sums are right, and the one that was built there."""
+    if os.path.realpath(built) == os.path.realpath(program.SHIPPED) and not shipped.why_not(program.ROOT):
+        return (f"The program is that of the repository's folder {shipped.FOLDER}/: the toolchain {shipped.said(program.ROOT)['toolchain']} built it from the "
+                "sources of this version, which it does only where each of its functions is proved to meet its contract.")
     found = on_this_machine()
     if os.path.realpath(built) == os.path.realpath(program.BUILT) and found in toolchains():
         return f"The program was built with the toolchain {found}, which builds it only where each of its functions is proved to meet its contract."
