@@ -9,9 +9,10 @@ ROOT = pathlib.Path(__file__).resolve().parent.parent
 
 
 def program():
-    """The built program; the script at the root builds it first."""
-    subprocess.run([str(ROOT / "planner")], stdout=subprocess.DEVNULL)
-    return ROOT / "crates" / "planner_cli" / "out" / "planner_cli"
+    """The built program: that of the variable PLANNER, or the repository's own, which is built where that of dist/ can't be run."""
+    sys.path.insert(0, str(ROOT))
+    from planner_tools import program as own
+    return pathlib.Path(own.built()).absolute()
 
 
 def run(title, words, folder, shown=70):

@@ -75,7 +75,7 @@ def unwritten(fault):
 def answer(words):
     if words[:1] == ["--version"]:
         from planner_tools.version import VERSION
-        print(f"planner {VERSION}")
+        print(f"planner {VERSION}\n{program.described()}")
         return 0
     if words[:1] == ["--help"] or "--help" in words[1:] and words[0] not in MODULES:
         return print_help(words)

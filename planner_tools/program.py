@@ -1,19 +1,20 @@
 """The proved program: where it is, runs of it, and its build.
 
-The program is the one that the environment variable PLANNER names; otherwise in a checkout the one that was built there; otherwise the one that is
-installed beside this package.
+The program is the one that the environment variable PLANNER names; otherwise in a checkout the one of dist/, where that was built from the files that
+are there, or else the one that was built there; otherwise the one that is installed beside this package.
 """
 import os
 import subprocess
 import sys
 
+from planner_tools import shipped
+
 ROOT = os.path.dirname(os.path.dirname(os.path.realpath(__file__)))
 FRONT_END = os.path.join(ROOT, "planner")
 BUILT = os.path.join(ROOT, "crates", "planner_cli", "out", "planner_cli")
+SHIPPED = os.path.join(ROOT, *shipped.PROGRAM.split("/"))
 INSTALLED = os.path.join(ROOT, "planner_cli")
 BUILD = os.path.join(ROOT, "tools", "build.py")
-# The parts of a crate from which it is made.
-PARTS = ("src", "specs", "proofs")
 # The exit status where the program can't be built or run.
 NO_PROGRAM = 125
 
@@ -39,12 +40,30 @@ def path():
         raise NoProgram(f"the variable PLANNER names {name}, which isn't there or can't be run")
     if name:
         return name
-    for one in (BUILT,) if is_checkout() else (INSTALLED,):
+    for one in in_checkout() if is_checkout() else (INSTALLED,):
         if os.access(one, os.X_OK):
             return one
     if is_checkout():
-        raise NoProgram(f"the program isn't built yet: `python3 {os.path.relpath(BUILD)} planner_cli` proves and builds it")
+        raise NoProgram(f"the program isn't built yet: `python3 {os.path.relpath(BUILD)} planner_cli` proves and builds it; {shipped.why_not(ROOT)}")
     raise NoProgram(f"the program isn't there: {INSTALLED} is missing, or PLANNER has to name it")
+
+
+def in_checkout():
+    """The programs of a checkout that may be run, the one of dist/ first."""
+    return (BUILT,) if shipped.why_not(ROOT) else (SHIPPED, BUILT)
+
+
+def described():
+    """Which program is run, in a line."""
+    if named():
+        return f"program: {named()}, which the variable PLANNER names"
+    if not is_checkout():
+        return f"program: {INSTALLED}, as installed"
+    if not shipped.why_not(ROOT):
+        return f"program: {SHIPPED}, which {shipped.said(ROOT)['toolchain']} built from the sources that are here"
+    if is_stale():
+        return f"program: none yet, the next command proves and builds it: {shipped.why_not(ROOT)}"
+    return f"program: {BUILT}, built here: {shipped.why_not(ROOT)}"
 
 
 def run(*words, program=None):
@@ -64,7 +83,7 @@ def is_stale():
         built = os.stat(BUILT).st_mtime_ns
     except OSError:
         return True
-    folders = [os.path.join(ROOT, "crates", crate, part) for crate in os.listdir(os.path.join(ROOT, "crates")) for part in PARTS]
+    folders = [os.path.join(ROOT, "crates", crate, part) for crate in os.listdir(os.path.join(ROOT, "crates")) for part in shipped.PARTS]
     return os.stat(os.path.join(ROOT, "crates.txt")).st_mtime_ns > built or any(has_newer(it, built) for it in folders)
 
 
@@ -78,8 +97,10 @@ def has_newer(folder, moment):
 
 
 def built():
-    """The path of the program. In a checkout, where no variable names one, it is proved and built first if it is missing or older than a source."""
-    if not named() and is_checkout() and is_stale():
+    """The path of the program. In a checkout, where no variable names one and that of dist/ can't be run, it is proved and built first if it is missing
+    or older than a source."""
+    if not named() and is_checkout() and shipped.why_not(ROOT) and is_stale():
+        print(f"planner: the program is proved and built first: {shipped.why_not(ROOT)}", file=sys.stderr, flush=True)
         if subprocess.run([sys.executable, "-B", BUILD, "planner_cli"], check=False).returncode != 0:
             raise NoProgram("the program can't be built")
     return path()

@@ -205,11 +205,12 @@ DESCRIPTION = (
     "of a round and the hops of packets fall.")
 FRONT_END = (
     "Each command reads the files that it names, and writes its answer to the standard output. The standard output and the exit status of the commands of the "
-    "proved program are exactly the program's. What the front end says beside it goes to the error stream. In a checkout of the repository it proves and "
-    "builds the program first, where it is missing or older than a source, and says how long that takes.")
+    "proved program are exactly the program's. What the front end says beside it goes to the error stream. A checkout of the repository brings the program "
+    "along, in dist/. Where that was built from other sources than those that are there, the front end proves and builds the program first, where it is missing "
+    "or older than a source, and says why, and how long that takes.")
 OPTIONS = [
     ("--help", "Prints the commands in short; behind a command, more of it."),
-    ("--version", "Prints the version."),
+    ("--version", "Prints the version, and which program is run: that of dist/, one that was built here, or the installed one."),
     ("-o FILE", "Writes the answer into FILE, which is there only where the exit status is 0. Another answer goes to the standard output."),
     ("--strict", "Makes warnings exit status 3, with nothing written."),
     ("--quiet", "Says nothing on the error stream but refusals."),
@@ -217,7 +218,7 @@ OPTIONS = [
 SHORT_HANDS = (
     "A folder in place of TOPO stands for the files of it that are left out: topology.json, old.json (also for CONFIG), new.json, policy.json, plan.json, "
     "schedule, replies and update. `planner plan examples/square` takes the first four of them. The name `-` is the standard input. The error stream has colour "
-    "only on a terminal, and none where the variable NO_COLOR is set. The variable PLANNER names another program than the one that is built or installed.")
+    "only on a terminal, and none where the variable NO_COLOR is set. The variable PLANNER names another program than the one of dist/, the built or the installed one.")
 
 STATUSES = [
     (0, "done; the answer is yes"),

@@ -4,6 +4,7 @@ import os
 import pathlib
 import shutil
 import subprocess
+import sys
 import tempfile
 
 ROOT = pathlib.Path(__file__).resolve().parent.parent
@@ -27,12 +28,13 @@ class Answer:
 
 
 def program():
-    """The built program: that of the variable PLANNER, or the repository's own, which the script at the root builds."""
+    """The built program: that of the variable PLANNER, or the repository's own, which is built where that of dist/ can't be run."""
     named = os.environ.get("PLANNER")
     if named:
         return str(pathlib.Path(named).resolve())
-    subprocess.run([str(ROOT / "planner")], stdout=subprocess.DEVNULL)
-    return str(ROOT / "crates" / "planner_cli" / "out" / "planner_cli")
+    sys.path.insert(0, str(ROOT))
+    from planner_tools import program as own
+    return own.built()
 
 
 def example_folder(folder):

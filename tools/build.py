@@ -4,9 +4,9 @@
     tools/build.py PROGRAM      PROGRAM is the crate with `main`, as crates.txt names it
 
 The work is done by `rt ci`, which proves each crate from nothing, several side by side, builds the program and runs it. It works in a copy that has
-the program's crates alone, without the crates of tests and without the edits that must be refused: those are for the test command. What `rt ci` has
-passed it keeps beside its kit, under sums of all that it read. So a build that is stopped goes on where it was, and the test command takes over
-what a build has proved, as a build takes over what the test command has.
+the program's crates alone, without the crates of tests and without the edits that must be refused: those are for the test command. Where the
+toolchain has a store, `rt ci` keeps what it has passed beside its kit, under sums of all that it read. Then a build that is stopped goes on where it
+was, and the test command takes over what a build has proved, as a build takes over what the test command has. Otherwise each begins anew.
 """
 import fcntl
 import hashlib
@@ -21,6 +21,8 @@ import time
 
 # The file, beside this script, that says how many processor seconds each crate took when it was last measured.
 MEASURED = "crate_seconds.txt"
+# The folder beside its kit in which `rt ci` keeps what it has passed. Scripts of a toolchain that has no such store don't name it.
+STORE = "rattle-kept"
 # Processor seconds for a line of code, definitions and proofs, of crates that the file doesn't name.
 SECONDS_FOR_A_LINE = 0.08
 # Memory that a crate may take while it is proved, in bytes.
@@ -226,9 +228,12 @@ def free_memory():
 
 
 def keeps_work():
-    """Whether `rt ci` can keep what it has passed: for this it writes beside its kit."""
-    beside = os.path.dirname(os.path.dirname(os.path.dirname(os.path.realpath(shutil.which("rt")))))
-    store = f"{beside}/rattle-kept"
+    """Whether `rt ci` keeps what it has passed: where its scripts know of a store, and it may write it beside its kit."""
+    scripts = os.path.dirname(os.path.realpath(shutil.which("rt")))
+    if not any(STORE in text_of(f"{scripts}/{name}") for name in os.listdir(scripts) if name.startswith("rt")):
+        return False
+    beside = os.path.dirname(os.path.dirname(scripts))
+    store = f"{beside}/{STORE}"
     return os.stat(store).st_uid == os.geteuid() if os.path.isdir(store) else os.access(beside, os.W_OK)
 
 
@@ -340,12 +345,12 @@ def alone(root, voice):
 
 
 def other_toolchain(root):
-    """Returns a sentence where `rt version` isn't what toolchain.txt names, or None."""
-    wanted = next((line.split(" ", 1)[1].strip() for line in read_lines(f"{root}/toolchain.txt") if line.startswith("rattle ")), None)
+    """Returns a sentence where what `rt version` prints is none of the toolchains that toolchain.txt names, or None."""
+    wanted = [line.partition("#")[0].split(" ", 1)[1].strip() for line in read_lines(f"{root}/toolchain.txt") if line.startswith("rattle ")]
     found = subprocess.run(["rt", "version"], capture_output=True, text=True, check=False).stdout.strip() if wanted else None
-    if not found or wanted == found:
+    if not found or found in wanted:
         return None
-    return f"the toolchain on this machine is {found}; the repository was proved with {wanted}, and with another one proofs may fail"
+    return f"the toolchain on this machine is {found}; the repository was proved with {' and with '.join(wanted)}, and with another one proofs may fail"
 
 
 def read_lines(path):
@@ -385,7 +390,7 @@ def main(words):
         voice.say(said.rstrip("\n"))
         voice.say(f"planner: the program could not be built{': ' + ', '.join(failed) + ' failed' if failed else ''}, as told above")
     except Stopped as it:
-        voice.say(f"planner: stopped; {'the next run goes on from here' if keeps_work() else 'the next run begins anew, since rt cannot keep what it has proved'}")
+        voice.say(f"planner: stopped; {'the next run goes on from here' if keeps_work() else 'the next run begins anew, since rt keeps nothing of what it has proved'}")
         return 128 + it.args[0]
     except (OSError, ValueError, subprocess.CalledProcessError) as it:
         voice.say(f"planner: the program could not be built: {it}")

@@ -3,14 +3,13 @@
 
     tools/debian.py [FOLDER]        writes FOLDER/planner_VERSION_ARCHITECTURE.deb, in the working folder by default, and prints its path
 
-The program is that of the checkout, which is proved and built first where that wasn't done yet, or the one that the variable PLANNER names. Only
-`dpkg-deb` and `dpkg` are needed.
+The program is that of dist/, where it was built from the files of the checkout: then nothing is proved or built, and only `dpkg-deb` and `dpkg` are needed.
+Otherwise it is that of the checkout, which is proved and built first where that wasn't done yet, or the one that the variable PLANNER names.
 """
 import datetime
 import gzip
 import hashlib
 import os
-import re
 import shutil
 import subprocess
 import sys
@@ -21,6 +20,7 @@ ROOT = os.path.dirname(os.path.dirname(os.path.realpath(__file__)))
 sys.path.insert(0, ROOT)
 sys.dont_write_bytecode = True
 
+from dist import library_version  # noqa: E402
 from planner_tools import program  # noqa: E402
 from planner_tools.install import files, toolchain  # noqa: E402
 from planner_tools.version import VERSION  # noqa: E402
@@ -49,16 +49,10 @@ def architecture():
     return subprocess.run(["dpkg", "--print-architecture"], capture_output=True, text=True, check=True).stdout.strip()
 
 
-def library_version(path):
-    """The newest version of the C library of which the program uses a symbol."""
-    with open(path, "rb") as file:
-        found = re.findall(rb"GLIBC_(\d+)\.(\d+)", file.read())
-    return ".".join(map(str, max((int(major), int(minor)) for major, minor in found))) if found else None
-
-
 def dependencies(path):
-    newest = library_version(path)
-    return ", ".join([f"libc6 (>= {newest})"] * bool(newest) + [f"python3 (>= {toolchain.versions()['python']})"])
+    with open(path, "rb") as file:
+        newest = library_version(file.read())
+    return ", ".join([f"libc6 (>= {newest})"] * bool(newest) + [f"python3 (>= {toolchain.python()})"])
 
 
 def control(built, size):

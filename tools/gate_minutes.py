@@ -8,7 +8,8 @@
 What `rt ci` says has no times, and of edits it speaks only at its end. So `run` stamps each line with the seconds since the start, and besides looks
 once a second at the processes that rt started: each is the work on one crate, and which work it is stands in its words. For each that ended, the log
 has a line `## SECOND CRATE KIND PROCESSOR-SECONDS SECONDS`. Minutes are processor minutes, also of processes that were started beneath; `long` is how
-many minutes the proof took by the clock. What was kept from an earlier run takes no time: for a whole run the words are `--anew`.
+many minutes the proof took by the clock. What was kept from an earlier run takes no time: for a whole run the words are `--anew`, and
+none where the toolchain keeps nothing.
 """
 import os
 import subprocess

@@ -103,8 +103,9 @@ class Words(unittest.TestCase):
 
 
 # An rt that proves, in a tree of the program's crates alone, what has no file `bad` and wasn't kept, and notes what it has proved. At the crate $HOLDS
-# it waits until the file $ON is there.
+# it waits until the file $ON is there. It speaks of its store, as an rt that has one does; RT_WITHOUT has none.
 RT = """#!/bin/sh
+# what is passed is kept in rattle-kept
 [ "$1" = version ] && { echo kit; exit 0; }
 [ "$1" = ci ] && [ -e HANDLES ] && [ ! -e crates/top_tests ] && [ ! -e crates/base/must-fail ] || { echo "a wrong tree"; exit 2; }
 for it in base left right top; do
@@ -124,6 +125,8 @@ echo built > crates/top/out/top
 echo "4 passed, 0 failed"
 """
 
+RT_WITHOUT = RT.replace("# what is passed is kept in rattle-kept\n", "").replace('[ -e "$key" ] &&', "false &&")
+
 
 class Builds(unittest.TestCase):
     def setUp(self):
@@ -131,10 +134,9 @@ class Builds(unittest.TestCase):
         self.root, self.asked = f"{self.room.name}/tree", f"{self.room.name}/asked"
         for folder in ("tree/tools", "kit/rattle/bin", "kept", "temporary"):
             os.makedirs(f"{self.room.name}/{folder}")
-        for file, text in ((f"{self.root}/crates.txt", LISTED), (f"{self.root}/HANDLES", ""), (f"{self.room.name}/kit/rattle/bin/rt", RT), (self.asked, "")):
+        for file, text in ((f"{self.root}/crates.txt", LISTED), (f"{self.root}/HANDLES", ""), (self.asked, "")):
             with open(file, "w") as it:
                 it.write(text)
-        os.chmod(f"{self.room.name}/kit/rattle/bin/rt", 0o755)
         with open(build.__file__) as one, open(f"{self.root}/tools/build.py", "w") as other:
             other.write(one.read())
         with open(f"{self.root}/tools/{build.MEASURED}", "w") as it:
@@ -143,6 +145,7 @@ class Builds(unittest.TestCase):
             os.makedirs(f"{self.root}/crates/{crate}/src")
             os.makedirs(f"{self.root}/crates/{crate}/must-fail")
             self.write(crate, "one line\n")
+        self.use(RT)
         kit, temporary = f"{self.room.name}/kit/rattle/bin:{os.environ['PATH']}", f"{self.room.name}/temporary"
         self.on = f"{self.room.name}/on"
         self.how = {**os.environ, "PATH": kit, "ASKED": self.asked, "KEPT": f"{self.room.name}/kept", "TMPDIR": temporary, "ON": self.on}
@@ -153,6 +156,12 @@ class Builds(unittest.TestCase):
     def write(self, crate, text, name="lib.rt"):
         with open(f"{self.root}/crates/{crate}/src/{name}", "w") as it:
             it.write(text)
+
+    def use(self, rt):
+        """Puts an rt into the kit."""
+        with open(f"{self.room.name}/kit/rattle/bin/rt", "w") as it:
+            it.write(rt)
+        os.chmod(f"{self.room.name}/kit/rattle/bin/rt", 0o755)
 
     def begin(self, **more):
         words = [sys.executable, "-B", f"{self.root}/tools/build.py", "top"]
@@ -211,6 +220,18 @@ class Builds(unittest.TestCase):
         self.assertEqual((status, asked), (0, ["right", "top"]))
         self.assertIn("2 of 4 crates done before, 2 to do", said[0])
 
+    def test_begins_anew_where_rt_keeps_nothing(self):
+        self.use(RT_WITHOUT)
+        ran = self.begin(HOLDS="right")
+        self.until(ran, "planner: 2 of 4 crates done, now right, 0 of about 1 minute")
+        ran.send_signal(signal.SIGTERM)
+        status, said, asked = self.end(ran)
+        self.assertEqual((status, said[-1]), (128 + signal.SIGTERM, "planner: stopped; the next run begins anew, since rt keeps nothing of what it has proved"))
+        for _ in range(2):
+            status, said, asked = self.build()
+            self.assertEqual((status, asked), (0, ["base", "left", "right", "top"]))
+            self.assertIn("program: 4 crates, about 1 minute on", said[0])
+
     def test_what_was_kept_says_nothing_of_the_pace(self):
         self.build()
         os.remove(f"{self.root}/crates/top/out/passed")
@@ -225,12 +246,13 @@ class Builds(unittest.TestCase):
         self.assertEqual((status, asked, said[-1]), (0, ["base", "left", "right", "top", "right"], "planner: built, 0 minutes"))
 
     def test_another_toolchain_is_told(self):
-        for named, words in (("other", "planner: the toolchain on this machine is kit; the repository was proved with other, and with another one proofs may fail"), ("kit", None)):
+        told = "planner: the toolchain on this machine is kit; the repository was proved with {}, and with another one proofs may fail"
+        for named, words in ((["other"], told.format("other")), (["other", "third"], told.format("other and with third")), (["kit"], None), (["other", "kit"], None)):
             with open(f"{self.root}/toolchain.txt", "w") as it:
-                it.write(f"# with what it is proved\nrattle {named}\npython 3.10\n")
+                it.write("# with what it is proved\n" + "".join(f"rattle {one}\n" for one in named) + "python 3.10\n")
             status, said, _ = self.build()
             self.assertEqual(status, 0)
-            self.assertEqual(said[0] == words, words is not None, said)
+            self.assertEqual([line for line in said if line.startswith("planner: the toolchain")], [words] * bool(words), said)
 
     def test_a_crate_that_fails_is_named_with_what_rt_said(self):
         self.write("left", "", "bad")

@@ -13,7 +13,7 @@ class Lint(unittest.TestCase):
     def test_all_scripts_are_looked_at(self):
         python, shell = ([os.path.relpath(path, lint.ROOT) for path in paths] for paths in lint.scripts())
         self.assertLessEqual({"planner", "tools/lint.py", "planner_tools/main.py", "bench/ratio.py"}, set(python))
-        self.assertLessEqual({".ci/run", "controller/lab/bridges.sh", "docs/planner.bash"}, set(shell))
+        self.assertLessEqual({".ci/run", "lab/bridges.sh", "docs/planner.bash"}, set(shell))
 
     def test_what_is_found(self):
         for text, words in (("import os\n", "os is imported and not used"), ("def f():\n    a = 1\n", "a is given a value that nothing reads"), ("x = f'a'\n", "nothing to fill in"),

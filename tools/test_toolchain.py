@@ -2,7 +2,9 @@
 import os
 import re
 import sys
+import tempfile
 import unittest
+import unittest.mock
 
 ROOT = os.path.dirname(os.path.dirname(os.path.realpath(__file__)))
 sys.path.insert(0, ROOT)
@@ -20,16 +22,29 @@ class Toolchain(unittest.TestCase):
         found = toolchain.on_this_machine()
         if found is None:
             self.skipTest("no toolchain on this machine")
-        self.assertEqual(toolchain.versions()["rattle"], found)
+        self.assertIn(found, toolchain.toolchains())
         self.assertIsNone(toolchain.difference())
 
     def test_the_documents_name_the_same(self):
-        for path in ("README.md", "docs/PROVED.md"):
-            self.assertEqual({toolchain.versions()["rattle"]}, set(re.findall(r"rattle-kit-\S+ logic [0-9a-f]+", read(path))), path)
-        self.assertTrue(f"Python {toolchain.versions()['python']}" in read("README.md"))
+        kits, logics = zip(*(line.split(" logic ") for line in toolchain.toolchains()))
+        for path in ("README.md", "docs/PROVED.md", "docs/CLAIMS.md"):
+            text = read(path)
+            self.assertEqual(set(kits), set(re.findall(r"rattle-kit-\w+", text)), path)
+            self.assertEqual(set(logics), set(re.findall(r"logic `?([0-9a-f]{16})\b", text)), path)
+        self.assertIn(f"Python {toolchain.python()}", read("README.md"))
+
+    def test_each_line_of_a_toolchain_counts(self):
+        with tempfile.TemporaryDirectory() as root:
+            with open(os.path.join(root, toolchain.FILE), "w", encoding="ascii") as file:
+                file.write("# with what\nrattle one logic 1   # the first\nrattle other logic 1\n\npython 3.10\n")
+            self.assertEqual((toolchain.toolchains(root), toolchain.python(root)), (["one logic 1", "other logic 1"], "3.10"))
+            for found, wanted in (("other logic 1", None), (None, None),
+                                  ("third logic 2", "the toolchain on this machine is third logic 2; the repository was proved with one logic 1 and with other logic 1")):
+                with unittest.mock.patch.object(toolchain, "on_this_machine", lambda found=found: found):
+                    self.assertEqual(toolchain.difference(root), wanted)
 
     def test_this_python_is_no_older(self):
-        self.assertGreaterEqual(sys.version_info[:2], tuple(map(int, toolchain.versions()["python"].split("."))))
+        self.assertGreaterEqual(sys.version_info[:2], tuple(map(int, toolchain.python().split("."))))
 
 
 if __name__ == "__main__":

@@ -2,6 +2,7 @@
 import datetime
 import gzip
 import os
+import re
 import shutil
 import stat
 
@@ -78,14 +79,13 @@ def room_for(prefix, place):
 
 
 def day_of(root):
-    """The day of the texts that are made: that of the version in the list of changes, or of SOURCE_DATE_EPOCH."""
+    """The day of the texts that are made: that of the newest version in the list of changes, or of SOURCE_DATE_EPOCH."""
     if os.environ.get("SOURCE_DATE_EPOCH"):
         return datetime.datetime.fromtimestamp(int(os.environ["SOURCE_DATE_EPOCH"]), datetime.timezone.utc).strftime("%Y-%m-%d")
     with open(os.path.join(root, "CHANGELOG.md"), encoding="utf-8") as file:
-        heads = [line.split() for line in file if line.startswith("## ")]
-    return heads[0][-1]
+        return next(line.split()[-1] for line in file if re.match(r"## \d", line))
 
 
 def program_to_install():
-    """The program that is installed: the one that PLANNER names, or that of the checkout, which is built where it is missing or stale."""
+    """The program that is installed: the one that PLANNER names, or that of the checkout: the one of dist/, or one that is built where it is missing or stale."""
     return program.built()

@@ -11,7 +11,7 @@ DEFAULT = "/usr/local"
 
 def main(words):
     parser = argparse.ArgumentParser(prog="planner install", description="Puts the program, this front end, manual pages, completions and examples in their places under a prefix. "
-                                     "It is done from a checkout, in which the program is proved and built first where that wasn't done yet.")
+                                     "It is done from a checkout, with the program of dist/; where that was built from other sources, the program is proved and built first.")
     parser.add_argument("prefix", metavar="PREFIX", nargs="?", default=DEFAULT, help=f"{DEFAULT}: then the command is PREFIX/bin/planner")
     options = parser.parse_args(words)
     if not program.is_checkout():

@@ -1,18 +1,28 @@
-"""The toolchain with which the program is proved and built, and the oldest Python for the scripts: those that toolchain.txt names."""
+"""The toolchains with which the program is proved and built, and the oldest Python for the scripts: those that toolchain.txt names."""
 import hashlib
 import os
 import subprocess
 
-from planner_tools import program
+from planner_tools import program, shipped
 
 FILE = "toolchain.txt"
 
 
-def versions(root=program.ROOT):
-    """The words behind each name in toolchain.txt."""
+def named(name, root=program.ROOT):
+    """The words behind a name in toolchain.txt, for each of its lines."""
     with open(os.path.join(root, FILE), encoding="ascii") as file:
-        lines = [line.split("#")[0].strip() for line in file]
-    return dict(line.split(" ", 1) for line in lines if line)
+        lines = [line.split("#")[0].split(None, 1) for line in file]
+    return [line[1].strip() for line in lines if line[:1] == [name]]
+
+
+def toolchains(root=program.ROOT):
+    """The toolchains with each of which the whole was proved, as `rt version` prints them."""
+    return named("rattle", root)
+
+
+def python(root=program.ROOT):
+    """The oldest Python for the scripts."""
+    return named("python", root)[0]
 
 
 def on_this_machine():
@@ -25,16 +35,21 @@ def on_this_machine():
 
 
 def difference(root=program.ROOT):
-    """A sentence where the toolchain of the machine is another one, or None."""
-    wanted, found = versions(root)["rattle"], on_this_machine()
-    if found in (None, wanted):
+    """A sentence where the toolchain of the machine is none of them, or None."""
+    wanted, found = toolchains(root), on_this_machine()
+    if found is None or found in wanted:
         return None
-    return f"the toolchain on this machine is {found}; the repository was proved with {wanted}"
+    return f"the toolchain on this machine is {found}; the repository was proved with {' and with '.join(wanted)}"
 
 
 def origin(built):
-    """A sentence on where a program comes from. That it was proved is said of the one alone that the checkout built with its own toolchain."""
-    if os.path.realpath(built) == os.path.realpath(program.BUILT) and on_this_machine() == versions()["rattle"]:
-        return f"The program was built with the toolchain {versions()['rattle']}, which builds it only where each of its functions is proved to meet its contract."
+    """A sentence on where a program comes from. That it was proved is said of those alone that one of the checkout's own toolchains built from its files:
+    the one of dist/, where its sums are right, and the one that was built there."""
+    if os.path.realpath(built) == os.path.realpath(program.SHIPPED) and not shipped.why_not(program.ROOT):
+        return (f"The program is that of the repository's folder {shipped.FOLDER}/: the toolchain {shipped.said(program.ROOT)['toolchain']} built it from the "
+                "sources of this version, which it does only where each of its functions is proved to meet its contract.")
+    found = on_this_machine()
+    if os.path.realpath(built) == os.path.realpath(program.BUILT) and found in toolchains():
+        return f"The program was built with the toolchain {found}, which builds it only where each of its functions is proved to meet its contract."
     with open(built, "rb") as file:
         return f"The program wasn't built here: the packager named one with the sum sha256 {hashlib.sha256(file.read()).hexdigest()}."

@@ -2,10 +2,12 @@
 import os
 import shutil
 import subprocess
+import sys
 import tempfile
 import unittest
 
 import rows
+import test_shipped
 
 BUILD = """import pathlib
 pathlib.Path(__file__).with_name("begun").touch()
@@ -13,6 +15,10 @@ raise SystemExit(1)
 """
 PROGRAM = "#!/bin/sh\necho the program says $*\n"
 FOLDER = os.path.join(rows.ROOT, "examples", "square")
+
+sys.path.insert(0, rows.ROOT)
+
+from planner_tools.version import VERSION  # noqa: E402
 
 
 class Trees(unittest.TestCase):
@@ -33,6 +39,11 @@ class Trees(unittest.TestCase):
         self.write("tools/build.py", BUILD)
         self.write("crates/one/src/lib.rt", "code")
         self.write("crates.txt", "one\n")
+
+    def shipped(self, said="the shipped one"):
+        """A checkout with a program in dist/ that was built from its files."""
+        self.write("tools/build.py", BUILD)
+        test_shipped.fill(self.root, PROGRAM.replace("the program", said))
 
     def run_in_tree(self, *words, **variables):
         environment = {name: value for name, value in os.environ.items() if name != "PLANNER"}
@@ -66,6 +77,62 @@ class Trees(unittest.TestCase):
         self.assertEqual(125, self.run_in_tree("sample", "4")[0])
         self.assertTrue(self.has_begun())
 
+    def test_the_one_of_dist_is_run_without_a_build_where_it_was_built_from_these_files(self):
+        self.shipped()
+        for _ in range(2):
+            self.assertEqual((0, "the shipped one says sample 4\n", ""), self.run_in_tree("sample", "4"))
+        self.write("crates/planner_cli/out/planner_cli", PROGRAM)
+        self.assertEqual("the shipped one says sample 4\n", self.run_in_tree("sample", "4")[1])
+        self.assertEqual("the named one says sample 4\n", self.run_in_tree("sample", "4", PLANNER=self.other("the named one"))[1])
+        self.assertFalse(self.has_begun())
+
+    def test_over_changed_sources_it_is_built_anew_and_said_why(self):
+        self.shipped()
+        self.assertEqual("the shipped one says sample 4\n", self.run_in_tree("sample", "4")[1])
+        self.write("crates/base/src/lib.rt", "bass")
+        status, text, said = self.run_in_tree("sample", "4")
+        self.assertEqual((125, ""), (status, text))
+        self.assertEqual(f"planner: the program is proved and built first: {test_shipped.OTHER_SOURCES}", said.splitlines()[0])
+        self.assertTrue(self.has_begun())
+        status, text, said = self.run_in_tree("show", ".")
+        self.assertEqual((125, ""), (status, text))
+        self.assertIn(f"the program isn't built yet: `python3 ../tools/build.py planner_cli` proves and builds it; {test_shipped.OTHER_SOURCES}".replace(
+            "../tools", os.path.relpath(os.path.join(self.root, "tools"), FOLDER)), said)
+        self.write("crates/planner_cli/out/planner_cli", PROGRAM)
+        self.assertEqual((0, "the program says sample 4\n", ""), self.run_in_tree("sample", "4"))
+        self.write("crates/base/src/lib.rt", "base")
+        self.assertEqual((0, "the shipped one says sample 4\n", ""), self.run_in_tree("sample", "4"))
+
+    def test_where_there_is_none_it_is_said(self):
+        self.checkout()
+        self.assertEqual("planner: the program is proved and built first: dist/ has no program", self.run_in_tree("sample", "4")[2].splitlines()[0])
+
+    def test_the_version_says_which_program_is_run(self):
+        other = self.other("another")
+        built, shipped = (os.path.join(self.root, path) for path in ("crates/planner_cli/out/planner_cli", "dist/planner_cli"))
+
+        def says(line, **variables):
+            self.assertEqual((0, f"planner {VERSION}\nprogram: {line}\n", ""), self.run_in_tree("--version", **variables))
+
+        says(f"{self.root}/planner_cli, as installed")
+        says(f"{other}, which the variable PLANNER names", PLANNER=other)
+        self.checkout()
+        says("none yet, the next command proves and builds it: dist/ has no program")
+        self.write("crates/planner_cli/out/planner_cli", PROGRAM)
+        says(f"{built}, built here: dist/ has no program")
+        self.shipped()
+        says(f"{shipped}, which one logic 1 built from the sources that are here")
+        self.write("crates/base/src/lib.rt", "bass")
+        says(f"none yet, the next command proves and builds it: {test_shipped.OTHER_SOURCES}")
+        self.write("crates/planner_cli/out/planner_cli", PROGRAM)
+        says(f"{built}, built here: {test_shipped.OTHER_SOURCES}")
+        self.assertFalse(self.has_begun())
+
+    def other(self, said):
+        """The path of another program."""
+        self.write("other", PROGRAM.replace("the program", said))
+        return os.path.join(self.root, "other")
+
     def test_help_and_version_need_no_program(self):
         self.checkout()
         for words in (["--help"], ["--version"], ["check", "--help"], ["page", "--help"]):
@@ -81,8 +148,7 @@ class Trees(unittest.TestCase):
 
     def test_the_variable_names_another_program_but_not_the_front_end_itself(self):
         self.write("planner_cli", PROGRAM)
-        self.write("other", PROGRAM.replace("program", "other one"))
-        self.assertEqual("the other one says sample 4\n", self.run_in_tree("sample", "4", PLANNER=os.path.join(self.root, "other"))[1])
+        self.assertEqual("the other one says sample 4\n", self.run_in_tree("sample", "4", PLANNER=self.other("the other one"))[1])
         self.assertEqual("the program says sample 4\n", self.run_in_tree("sample", "4", PLANNER=os.path.join(self.root, "planner"))[1])
 
 

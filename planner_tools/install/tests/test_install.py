@@ -9,9 +9,10 @@ import tempfile
 import unittest
 
 ROOT = pathlib.Path(__file__).resolve().parents[3]
-sys.path.insert(0, str(ROOT))
+sys.path[:0] = [str(ROOT), str(ROOT / "planner_tools" / "tests")]
 
-from planner_tools import program, words  # noqa: E402
+import test_shipped  # noqa: E402
+from planner_tools import program, shipped, words  # noqa: E402
 from planner_tools.install import completions, toolchain  # noqa: E402
 from planner_tools.version import VERSION  # noqa: E402
 
@@ -97,13 +98,41 @@ class Install(Installed):
         said = run("dpkg-deb", "--field", package).stdout
         self.assertIn(f"Version: {VERSION}\n", said)
         self.assertIn(toolchain.origin(program.path()), " ".join(said.split()))
-        self.assertIn(f"python3 (>= {toolchain.versions()['python']})", said)
+        self.assertIn(f"python3 (>= {toolchain.python()})", said)
         empty = self.folder / "empty"
         run("dpkg-deb", "-x", package, empty)
         self.check_files(empty / "usr")
         self.check_runs(empty / "usr", self.folder)
         if shutil.which("lintian"):
             self.assertEqual([], [line for line in run("lintian", "--allow-root", package).stdout.splitlines() if line.startswith("E:")])
+
+    def checkout(self):
+        """A checkout with the front end of this one, whose dist/ has the program of these tests, and which nothing could build."""
+        root = self.folder / "checkout"
+        for name in ("planner_tools", "tools", "docs", "examples"):
+            shutil.copytree(ROOT / name, root / name, ignore=shutil.ignore_patterns("tests", "__pycache__"))
+        for name in ("planner", "README.md", "CHANGELOG.md", "SECURITY.md", "LICENSE"):
+            shutil.copy2(ROOT / name, root / name)
+        test_shipped.fill(root)
+        shutil.copyfile(program.path(), root / shipped.PROGRAM)
+        test_shipped.tell(root)
+        return root
+
+    def test_from_dist_nothing_is_built(self):
+        done = run(sys.executable, "-B", self.checkout() / "planner", "install", self.folder / "here", env=away())
+        self.assertEqual((done.returncode, done.stdout), (0, ""), done.stderr)
+        self.assertIn("The program is that of the repository's folder dist/: the toolchain one logic 1 built it from the sources of this version", done.stderr)
+        self.assertTrue(done.stderr.endswith("\n") and done.stderr.count("\n") == 1, done.stderr)
+        self.check_files(self.folder / "here")
+
+    @unittest.skipUnless(shutil.which("dpkg-deb"), "no dpkg-deb on this machine")
+    def test_the_package_of_dist_needs_no_toolchain(self):
+        done = run(sys.executable, "-B", self.checkout() / "tools" / "debian.py", self.folder, env=away())
+        self.assertEqual((done.returncode, done.stderr), (0, ""))
+        self.assertIn("the toolchain one logic 1 built it from the sources", " ".join(run("dpkg-deb", "--field", done.stdout.strip()).stdout.split()))
+        run("dpkg-deb", "-x", done.stdout.strip(), self.folder / "empty")
+        self.check_files(self.folder / "empty" / "usr")
+        self.check_runs(self.folder / "empty" / "usr", self.folder)
 
     @unittest.skipUnless(shutil.which("man"), "no man on this machine")
     def test_manual_pages_are_set_without_a_warning(self):

@@ -1,9 +1,9 @@
 #!/usr/bin/env bash
 # An update of Open vSwitch bridges under traffic: once by a plan, carried out by `planner apply`, and then the same changes at once, for comparison.
 #
-#   controller/lab/end_to_end.sh FOLDER [WAIT [MILLISECONDS]]
-#   controller/lab/end_to_end.sh ring N [WAIT [MILLISECONDS]]
-#   controller/lab/end_to_end.sh ring-without-tags N [WAIT [MILLISECONDS]]
+#   lab/end_to_end.sh FOLDER [WAIT [MILLISECONDS]]
+#   lab/end_to_end.sh ring N [WAIT [MILLISECONDS]]
+#   lab/end_to_end.sh ring-without-tags N [WAIT [MILLISECONDS]]
 #
 # FOLDER has topology.json, old.json, new.json and policy.json, as examples/square has; `ring N` makes the files of a ring of N switches, `ring-without-tags N`
 # those of one in which the planner may use no tags. The plan is that of `pack`, or of `plan` where the program has no `pack`; BY names another command, and
@@ -15,9 +15,9 @@
 # Exit status: 0 where the update by the plan came to its end and broke no packet.
 set -u
 here=$(cd "$(dirname "$0")" && pwd)
-root=$here/../..
+root=$here/..
 planner=$root/planner
-dir=$(mktemp -d -t controller-lab-XXXXXX)
+dir=$(mktemp -d -t planner-lab-XXXXXX)
 traffic='' update=''
 end() {
     for one in $traffic $update; do kill "$one" 2>/dev/null && wait "$one" 2>/dev/null; done

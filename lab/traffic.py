@@ -24,7 +24,7 @@ import subprocess
 import sys
 import time
 
-sys.path[:0] = [str(pathlib.Path(__file__).resolve().parents[2]), str(pathlib.Path(__file__).resolve().parents[2] / "planner_tools" / "switches" / "tests")]
+sys.path[:0] = [str(pathlib.Path(__file__).resolve().parents[1]), str(pathlib.Path(__file__).resolve().parents[1] / "planner_tools" / "switches" / "tests")]
 import fake_switch
 from planner_tools.switches import openflow
 

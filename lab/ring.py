@@ -4,7 +4,7 @@ import json
 import pathlib
 import sys
 
-sys.path.insert(0, str(pathlib.Path(__file__).resolve().parents[2] / "bench"))
+sys.path.insert(0, str(pathlib.Path(__file__).resolve().parents[1] / "bench"))
 from rings import Ring
 
 ring, folder, more = Ring(int(sys.argv[1]), 4), pathlib.Path(sys.argv[2]), sys.argv[3:]

@@ -1,7 +1,7 @@
 #!/usr/bin/env python3
 """Updates of Open vSwitch bridges under traffic, among faults: what is told, what was broken, and whether the next step that is told works.
 
-    controller/lab/faults.py FOLDER [--only FAULT].. [--wait SECONDS] [--seed N] [--by COMMAND] [--plan FILE]
+    lab/faults.py FOLDER [--only FAULT].. [--wait SECONDS] [--seed N] [--by COMMAND] [--plan FILE]
 
 FOLDER has topology.json, old.json, new.json and policy.json, as examples/square has. The plan is that of `pack`, or of `plan` where the program has no
 `pack`; --by names another command, and --plan a plan that is there already. Each fault has bridges of its own, made by bridges.sh in a userspace
@@ -42,12 +42,12 @@ import tempfile
 import time
 
 HERE = pathlib.Path(__file__).resolve().parent
-sys.path[:0] = [str(HERE), str(HERE.parents[1])]
+sys.path[:0] = [str(HERE), str(HERE.parent)]
 import traffic
 from between import Between
+from planner_tools import program
 
-FRONT_END = HERE.parents[1] / "planner"
-PROGRAM = os.environ.get("PLANNER") or str(HERE.parents[1] / "crates/planner_cli/out/planner_cli")
+FRONT_END = HERE.parent / "planner"
 # No run takes longer, in seconds.
 LONGEST = 300
 
@@ -56,7 +56,7 @@ class Lab:
     """The bridges of a network with their old tables, under traffic, and one update of them."""
 
     def __init__(self, folder, stack, wait, chance, make):
-        self.dir = pathlib.Path(stack.enter_context(tempfile.TemporaryDirectory(prefix="controller-lab-")))
+        self.dir = pathlib.Path(stack.enter_context(tempfile.TemporaryDirectory(prefix="planner-lab-")))
         self.folder, self.wait, self.chance = folder, wait, chance
         self.topology = json.loads((folder / "topology.json").read_text())
         self.names = [one["name"] for one in self.topology["switches"]]
@@ -92,7 +92,7 @@ class Lab:
     def begin(self, *more, record=None, listed=None, before=(), wait=None):
         words = [*before, sys.executable, "-B", FRONT_END, "apply", *self.files, record or self.record, "--switches", listed or self.listed,
                  "--wait", wait or self.wait, *more]
-        return subprocess.Popen([str(one) for one in words], stderr=subprocess.PIPE, text=True, env={**os.environ, "PLANNER": PROGRAM})
+        return subprocess.Popen([str(one) for one in words], stderr=subprocess.PIPE, text=True, env={**os.environ, "PLANNER": program.path()})
 
     def end_of(self, run):
         """Its exit status and what it said."""
@@ -169,7 +169,7 @@ def made_by(commands):
     """Returns what makes a plan of an update: the first of these commands that the program has."""
     def make(files):
         for command in commands:
-            done = subprocess.run([PROGRAM, command, *files], capture_output=True, text=True, check=False)
+            done = subprocess.run([program.path(), command, *files], capture_output=True, text=True, check=False)
             if done.returncode != 2:
                 break
         if done.returncode != 0:
