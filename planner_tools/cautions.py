@@ -1,18 +1,19 @@
 """Warnings about files that the program takes: members that it passes over, and demands and rules that say less than they seem to. Which class of
-packets goes where, and which one a demand covers, is what `paths` of the program says."""
+packets goes where, and which one a demand covers, is what `paths` of the program says; it is asked where the files by themselves leave it open whether
+there is something to warn of."""
+import bisect
 import json
 import os
-import re
 
 from planner_tools import network as nets
-from planner_tools.faults import MEMBERS, OF_OTHERS
 from planner_tools.files import NotJson, did_you_mean, member_path, nearest, read_json
+from planner_tools.members import MEMBERS, OF_OTHERS
 
 # Files longer than this aren't looked at: a plan, and the others.
 LONGEST = {"PLAN": 4 << 20}
 LONGEST_OTHER = 1 << 20
-# Files up to this length are looked through member by member; longer ones where some object has a member that no object of the file has.
-SMALL = 1 << 14
+# From so many classes on it is said that their paths are looked at, which takes its time.
+MANY = 4096
 # The commands that speak of what packets a policy covers, and the configuration that is looked at.
 JUDGING = {"config": "CONFIG", "plan": "NEW", "check": "NEW", "pack": "NEW", "certify": "NEW"}
 KIND_OF_WORD = {"TOPO": "topology", "CONFIG": "configuration", "OLD": "configuration", "NEW": "configuration", "POLICY": "policy", "PLAN": "plan"}
@@ -56,8 +57,7 @@ def member_cautions(kind, file):
     try:
         with open(file.real, "rb") as source:
             data = source.read()
-        known = {one for name in (kind, *INNER[kind].values()) for one in MEMBERS[name]}
-        if len(data) > SMALL and not has_odd_member(data.decode("utf-8"), known):
+        if not has_odd_member(kind, data.decode("utf-8")):
             return []
         text = read_json(file.real, file.shown)
     except (OSError, ValueError, NotJson, RecursionError):
@@ -76,18 +76,43 @@ def member_cautions(kind, file):
     return found
 
 
-def has_odd_member(text, known):
-    """Whether some object of a text has a member that isn't known, or one that stands twice. ValueError where the text is no JSON."""
-    odd = []
+def has_odd_member(kind, text):
+    """Whether an object of a file has a member that its format doesn't know, or one that stands twice. ValueError where the text is no JSON."""
+    objects, twice = [], []
 
     def look(pairs):
-        names = [name for name, _ in pairs]
-        if len(set(names)) < len(names) or not known.issuperset(names):
-            odd.append(names)
-        return dict(pairs)
+        made = dict(pairs)
+        (objects if len(made) == len(pairs) else twice).append(made)
+        return made
 
-    json.loads(text, object_pairs_hook=look)
-    return bool(odd)
+    root = json.loads(text, object_pairs_hook=look)
+    if twice or not isinstance(root, dict):
+        return bool(twice)
+    looked = 1
+    for name, inner in INNER[kind].items():
+        known = set(MEMBERS[inner])
+        for item in plain_objects_in(root.get(name), len(objects) - looked):
+            looked += 1
+            if not known.issuperset(item):
+                return True
+    return not set(MEMBERS[kind]).issuperset(root)
+
+
+def plain_objects_in(value, most):
+    """The objects in a list, or in lists in it, as `objects_in`; there are so many at most, and it ends behind the last one."""
+    waiting = [iter(value)] if isinstance(value, list) else []
+    while waiting and most > 0:
+        for item in waiting[-1]:
+            if isinstance(item, dict):
+                most -= 1
+                yield item
+            elif isinstance(item, list):
+                waiting.append(iter(item))
+                break
+            if most <= 0:
+                break
+        else:
+            waiting.pop()
 
 
 def objects_in(value, way):
@@ -117,34 +142,85 @@ def look_at_members(text, item, way, known, found):
 # ---- what the demands cover, and what the rules serve
 
 class PathLine:
-    """A line of `paths`: the class, its stops, its end and the mark of its path."""
+    """A line of `paths`: the class, its stops, its end and the mark of its path. ValueError where it is none."""
 
-    SHAPE = re.compile(r"((\S+) (\S+) ([\d.]+)): ((?:\S+:\d+ )+)(left \S+ \S+|dropped \S+|again \S+) (good|free|(?:Loop|Missed|Dropped) \S+)")
+    __slots__ = ("host", "vlan", "address", "stops", "end", "place", "mark")
+    ENDS = {"left": 3, "dropped": 2, "again": 2}
 
-    def __init__(self, found):
-        self.name, self.host, self.vlan, self.address, stops, self.end, self.mark = found.groups()
-        self.stops = stops.split()
+    def __init__(self, line):
+        name, colon, rest = line.partition(": ")
+        self.host, self.vlan, self.address = name.split(" ")
+        words = rest.split(" ")
+        at = next((at for at, word in enumerate(words) if word in self.ENDS), -1)
+        self.end = words[at]
+        behind = at + self.ENDS.get(self.end, 0)
+        if at < 1 or words[behind] not in ("good", "free", "Loop", "Missed", "Dropped") or not colon:
+            raise ValueError(line)
+        self.stops, self.place, self.mark = at, words[at + 1], words[behind]
+
+    def name(self):
+        return f"{self.host} {self.vlan} {self.address}"
+
+    def is_dropped(self):
+        return self.end == "dropped"
 
     def is_dropped_at_once(self):
-        return len(self.stops) == 1 and self.end.startswith("dropped ")
+        return self.stops == 1 and self.end == "dropped"
+
+
+class Files:
+    """The files of a run about which is warned: as JSON, and where something is said of a member with the places of all of them; each is read once."""
+
+    def __init__(self, run, config):
+        self.files = {"topology": run.files["TOPO"], "config": run.files[config], "policy": run.files.get("POLICY")}
+        self.plain_ones, self.placed_ones = {}, {}
+
+    def plain(self, kind):
+        if kind not in self.plain_ones:
+            self.plain_ones[kind] = None
+            if self.files[kind] is not None:
+                with open(self.files[kind].real, encoding="utf-8") as source:
+                    self.plain_ones[kind] = json.load(source)
+        return self.plain_ones[kind]
+
+    def placed(self, kind):
+        if kind not in self.placed_ones:
+            self.placed_ones[kind] = read_json(self.files[kind].real, self.files[kind].shown)
+        return self.placed_ones[kind]
+
+    def where(self, kind, *way):
+        text = self.placed(kind)
+        return text.where(text.at(way).start)
 
 
 def coverage_cautions(run, config):
-    """Warnings about demands and rules. Without `paths` only what the files say by themselves."""
+    """Warnings about demands and rules."""
+    from planner_tools.first_tables import free_classes
+
+    files = Files(run, config)
     try:
-        policy = read_json(run.files["POLICY"].real, run.files["POLICY"].shown) if "POLICY" in run.files else None
-        network = nets.Network(read_json(run.files["TOPO"].real, run.files["TOPO"].shown))
-    except (OSError, NotJson):
+        free, count = free_classes(*map(files.plain, ("topology", "config", "policy")))
+        if free is not None:
+            return [free_note(run, config, free, count)] if free else []
+        if count >= MANY:
+            run.voice.note(f"the paths of all {count} classes of packets are looked at first, for the warnings; --quiet leaves both out")
+        return path_cautions(run, config, files)
+    except (OSError, ValueError, NotJson, RecursionError):
         return []
+
+
+def path_cautions(run, config, files):
+    """Warnings by what `paths` says."""
     status, text = run.ask("paths", *(run.files[word].real for word in ("TOPO", config, "POLICY") if word in run.files))
     if status not in (0, 1):
-        return undeclared_cautions(policy, network) if status == 2 and policy is not None else []
-    lines = [PathLine(found) for found in map(PathLine.SHAPE.fullmatch, text.splitlines()) if found]
-    if not text.splitlines()[-1:] or not text.splitlines()[-1].startswith(f"{len(lines)} classes: "):
+        return undeclared_cautions(files.placed("policy"), nets.Network(files.placed("topology"))) if status == 2 and "POLICY" in run.files else []
+    *paths, last = text.splitlines()
+    lines = [PathLine(line) for line in paths]
+    if not last.startswith(f"{len(lines)} classes: "):
         return []            # it isn't the answer that is expected
     shown = run.files[config].shown
-    found = demand_cautions(policy, network, lines, shown) if policy is not None else []
-    return found + free_cautions(run, lines, policy, config) + unserved_cautions(lines, network, shown)
+    found = demand_cautions(files, lines, shown) if "POLICY" in run.files else []
+    return found + free_cautions(run, lines, config) + unserved_cautions(lines, files, shown)
 
 
 def demands_of(policy):
@@ -154,12 +230,12 @@ def demands_of(policy):
 
 
 def undeclared_cautions(policy, network):
-    return [undeclared(number, demand, where, network) for number, demand, where in demands_of(policy) if is_undeclared(demand, network)]
+    return [undeclared(number, demand, where, network) for number, demand, where in demands_of(policy) if is_undeclared(demand, network.vlans)]
 
 
-def is_undeclared(demand, network):
+def is_undeclared(demand, vlans):
     vlan = demand.get("vlan", "any")
-    return vlan not in network.vlans and (vlan == "untagged" or isinstance(vlan, int))
+    return vlan not in vlans and (vlan == "untagged" or isinstance(vlan, int))
 
 
 def undeclared(number, demand, where, network):
@@ -168,32 +244,78 @@ def undeclared(number, demand, where, network):
                    f"{did_you_mean(vlan, network.vlans)}", [f"the VLANs of {network.json.path} are {', '.join(map(str, network.vlans)) or 'none'}"])
 
 
-def demand_cautions(policy, network, lines, shown):
+class Covered:
+    """What `paths` says of the classes of a demand. All entries have the classes of the same addresses, so their classes with a path that isn't dropped
+    are counted together, from each address on."""
+
+    def __init__(self, lines):
+        self.groups = {}
+        for line in lines:
+            self.groups.setdefault((line.host, line.vlan), []).append(line)
+        self.addresses = [number_of(line.address) for line in next(iter(self.groups.values()), [])]
+        self.counts = {}
+
+    def counts_of(self, host, vlan):
+        """Of the entries of a host port and a VLAN, or of any: how many there are, and how many of their classes before each address aren't dropped."""
+        if (host, vlan) not in self.counts:
+            groups = [group for (one, other), group in self.groups.items() if host in ("any", one) and vlan in ("any", other)]
+            counts = [0] * (len(self.addresses) + 1)
+            for group in groups:
+                for at, line in enumerate(group):
+                    counts[at + 1] += not line.is_dropped()
+            for at in range(len(self.addresses)):
+                counts[at + 1] += counts[at]
+            self.counts[host, vlan] = len(groups), counts
+        return self.counts[host, vlan]
+
+    def of(self, demand):
+        """How many classes a demand covers, and how many of them aren't dropped."""
+        first, length = nets.prefix(demand["dst"])
+        low, high = bisect.bisect_left(self.addresses, first), bisect.bisect_left(self.addresses, first + (1 << 32 - length))
+        groups, counts = self.counts_of(demand.get("from", "any"), str(demand.get("vlan", "any")))
+        return groups * (high - low), counts[high] - counts[low]
+
+
+def number_of(address):
+    return int.from_bytes(bytes(map(int, address.split("."))), "big")
+
+
+def demand_cautions(files, lines, shown):
     """Warnings about demands that cover no class, or of whose packets none gets anywhere."""
-    found = []
-    for number, demand, where in demands_of(policy):
-        covered = [one for one in lines if demand.get("from", "any") in ("any", one.host) and str(demand.get("vlan", "any")) in ("any", one.vlan)
-                   and nets.covers(demand["dst"], one.address)]
-        if not covered and is_undeclared(demand, network):
-            found.append(undeclared(number, demand, where, network))
-        elif not covered:
+    classes, found, vlans = Covered(lines), [], files.plain("topology")["vlans"]
+    for number, demand in enumerate(files.plain("policy")["demands"]):
+        count, going = classes.of(demand)
+        if count and (demand.get("deliver") or going):
+            continue
+        where = files.where("policy", "demands", number)
+        if not count and is_undeclared(demand, vlans):
+            found.append(undeclared(number, demand, where, nets.Network(files.placed("topology"))))
+        elif not count:
             found.append(Caution(f"{where}: demands[{number}] speaks of no packet: it covers no class of packets", ["the network has no host port or no VLAN"]))
-        elif not demand.get("deliver") and all(one.end.startswith("dropped ") for one in covered):
+        else:
             found.append(Caution(f"{where}: demands[{number}] asks for nothing: in {shown} every packet to {demand['dst']} that it speaks of is dropped",
                                  ["a packet that is dropped meets every demand without `deliver`"]))
     return found
 
 
-def free_cautions(run, lines, policy, config):
+def free_cautions(run, lines, config):
     """How many classes no demand covers, and which."""
     free = [one for one in lines if one.mark == "free"]
-    if policy is None or not free:
+    if "POLICY" not in run.files or not free:
         return []
-    leaving = [one for one in free if one.end.startswith("left ")]
-    more = [f"`{paths_words(run, config)}` lists them: they are marked `free`"]
+    leaving = [one for one in free if one.end == "left"]
     if leaving:
-        return [Caution(f"{len(leaving)} of {len(lines)} classes of packets leave the network though no demand covers them: {listed(leaving)}", more)]
-    return [Caution(f"no demand covers {len(free)} of {len(lines)} classes of packets, and {run.files[config].shown} lets none of them leave the network", more, False)]
+        return [Caution(f"{len(leaving)} of {len(lines)} classes of packets leave the network though no demand covers them: {listed(leaving)}", [listing(run, config)])]
+    return [free_note(run, config, len(free), len(lines))]
+
+
+def free_note(run, config, free, count):
+    """What is said where no packet leaves that no demand covers."""
+    return Caution(f"no demand covers {free} of {count} classes of packets, and {run.files[config].shown} lets none of them leave the network", [listing(run, config)], False)
+
+
+def listing(run, config):
+    return f"`{paths_words(run, config)}` lists them: they are marked `free`"
 
 
 def paths_words(run, config):
@@ -205,23 +327,23 @@ def paths_words(run, config):
 
 
 def listed(lines):
-    names = [one.name for one in lines]
-    return ", ".join(names[:TOLD]) + (f" and {len(names) - TOLD} more" if len(names) > TOLD else "")
+    return ", ".join(one.name() for one in lines[:TOLD]) + (f" and {len(lines) - TOLD} more" if len(lines) > TOLD else "")
 
 
-def unserved_cautions(lines, network, shown):
+def unserved_cautions(lines, files, shown):
     """Warnings about host ports and VLANs whose packets are all dropped where they enter; of a port also that none leaves there."""
-    found, dead = [], set()
-    ends = {one.end.split(" ")[1] for one in lines if one.end.startswith("left ")}
-    for number, host in enumerate(network.hosts):
-        mine = [one for one in lines if one.host == host]
-        if mine and host not in ends and all(one.is_dropped_at_once() for one in mine):
+    found, dead, topology = [], set(), files.plain("topology")
+    ends = {one.place for one in lines if one.end == "left"}
+    served = {(one.host, one.vlan) for one in lines if not one.is_dropped_at_once()}
+    known, served_hosts = {one.host for one in lines}, {host for host, _ in served}
+    for number, host in enumerate(topology["hosts"]):
+        if host in known and host not in ends and host not in served_hosts:
             dead.add(host)
-            where = network.json.where(network.json.at(("hosts", number)).start)
+            where = files.where("topology", "hosts", number)
             found.append(Caution(f"{where}: no rule of {shown} serves the host port {host}: every packet that enters there is dropped at once, and none leaves there"))
-    for number, vlan in enumerate(network.vlans):
-        mine = [one for one in lines if one.vlan == str(vlan) and one.host not in dead]
-        if mine and all(one.is_dropped_at_once() for one in mine):
-            where = network.json.where(network.json.at(("vlans", number)).start)
+    served_vlans = {vlan for _, vlan in served}
+    for number, vlan in enumerate(topology["vlans"]):
+        if known - dead and str(vlan) not in served_vlans:
+            where = files.where("topology", "vlans", number)
             found.append(Caution(f"{where}: no rule of {shown} serves packets {nets.vlan_words(vlan)}: each is dropped where it enters"))
     return found

@@ -2,6 +2,7 @@
 are gone through in their order, and the first that bears that name, field and place tells the member, and what would be right. Nothing is refused here.
 """
 from planner_tools.files import did_you_mean, member_path, nearest
+from planner_tools.members import MEMBERS, OF_OTHERS
 from planner_tools.network import LAST_PORT, LAST_VLAN, NAME, port_reference, prefix
 
 PORT_WORDS = "a port is written SWITCH:PORT, as \"s1:2\""
@@ -9,19 +10,6 @@ PREFIX_WORDS = "a prefix is four numbers from 0 to 255 joined by dots, a slash, 
 VLAN_WORDS = f"`untagged`, or an id from 1 to {LAST_VLAN}"
 VLAN_TEST_WORDS = f"`any`, {VLAN_WORDS}"
 KIND_WORDS = {"object": "an object", "list": "a list", "text": "a text", "number": "a number", "truth": "true or false", "null": "null"}
-MEMBERS = {
-    "topology": ("switches", "links", "hosts", "vlans", "tags"),
-    "switch": ("name", "capacity"),
-    "configuration": ("rules",),
-    "rule": ("switch", "priority", "in_port", "vlan", "dst", "out"),
-    "policy": ("demands",),
-    "demand": ("from", "vlan", "dst", "through", "deliver"),
-    "plan": ("format", "kind", "rules", "rounds", "numberings", "befores", "uses", "picks", "labels", "tried"),
-    "plan rule": ("switch", "priority", "in_port", "vlan", "dst", "out", "set", "strip"),
-    "change": ("do", "switch", "priority", "in_port", "vlan", "dst", "out", "set", "strip"),
-}
-# The members by which files of the kinds are known.
-OF_OTHERS = {"topology": "switches", "policy": "demands", "plan": "rounds", "configuration": "rules"}
 PLACES_END = 4294967295
 
 

@@ -1,5 +1,4 @@
 """The words of the command line: the front end's options, and which command is named."""
-import signal
 import sys
 
 from planner_tools import program
@@ -85,6 +84,7 @@ def answer(words):
         if words and words[0] in MODULES and words[0] not in WITH_OUTPUT:
             return run_module(words, Options())
         options, rest = take_options(words)
+        import signal
         signal.signal(signal.SIGTERM, ended)
         return run_module(rest, options) if rest and rest[0] in MODULES else Run(rest, options).run()
     except Stop as stop:

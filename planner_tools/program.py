@@ -4,7 +4,6 @@ The program is the one that the environment variable PLANNER names; otherwise in
 are there, or else the one that was built there; otherwise the one that is installed beside this package.
 """
 import os
-import subprocess
 import sys
 
 from planner_tools import shipped
@@ -66,13 +65,56 @@ def described():
     return f"program: {BUILT}, built here: {shipped.why_not(ROOT)}"
 
 
+class Started:
+    """A run of the program, whose text is read as it comes. (The module subprocess does more, and takes as long to load as the rest of the front end.)"""
+
+    def __init__(self, *words):
+        import signal
+        self.reader, writer = os.pipe()
+        self.status = None
+        try:
+            # What Python ignores for itself the program doesn't.
+            self.number = os.posix_spawnp(words[0], words, os.environ, file_actions=[(os.POSIX_SPAWN_DUP2, writer, 1)], setsigdef=[signal.SIGPIPE, signal.SIGXFSZ])
+        except OSError as fault:
+            self.close()
+            raise NoProgram(f"the program can't be run: {fault}") from fault
+        finally:
+            os.close(writer)
+
+    def read(self):
+        """The next piece of its text; none is left where it is empty."""
+        return os.read(self.reader, 1 << 16)
+
+    def close(self):
+        """Reads no more."""
+        if self.reader is not None:
+            os.close(self.reader)
+            self.reader = None
+
+    def end(self):
+        """Ends the program before its time."""
+        import signal
+        if self.status is None:
+            os.kill(self.number, signal.SIGTERM)
+
+    def wait(self):
+        """Its exit status, or the number of the signal that ended it, with a minus."""
+        if self.status is None:
+            self.close()
+            self.status = os.waitstatus_to_exitcode(os.waitpid(self.number, 0)[1])
+        return self.status
+
+
 def run(*words, program=None):
     """The exit status of a run, and its text in one piece."""
+    started = Started(program or path(), *map(str, words))
     try:
-        done = subprocess.run([program or path(), *map(str, words)], stdout=subprocess.PIPE, text=True, errors="replace", check=False)
-    except OSError as fault:
-        raise NoProgram(f"the program can't be run: {fault}") from fault
-    return done.returncode, done.stdout
+        text = b"".join(iter(started.read, b""))
+    except BaseException:
+        started.end()
+        started.wait()
+        raise
+    return started.wait(), text.decode("utf-8", "replace")
 
 
 # ---- the build, for the front end of a checkout alone
@@ -101,6 +143,7 @@ def built():
     or older than a source."""
     if not named() and is_checkout() and shipped.why_not(ROOT) and is_stale():
         print(f"planner: the program is proved and built first: {shipped.why_not(ROOT)}", file=sys.stderr, flush=True)
+        import subprocess
         if subprocess.run([sys.executable, "-B", BUILD, "planner_cli"], check=False).returncode != 0:
             raise NoProgram("the program can't be built")
     return path()

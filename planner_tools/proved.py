@@ -1,9 +1,7 @@
 """One run of a proved command: the files that its words name, warnings before it, its text and status, which are handed on as they are, and what is
 said beside them."""
 import os
-import subprocess
 import sys
-import tempfile
 
 from planner_tools import program, words
 from planner_tools.voice import Voice
@@ -112,6 +110,7 @@ class Run:
         if sys.stdin is None:
             raise Stop("the standard input is closed", UNREAD)
         import shutil
+        import tempfile
         self.spooled = tempfile.NamedTemporaryFile(prefix="planner-")
         shutil.copyfileobj(sys.stdin.buffer, self.spooled)
         self.spooled.flush()
@@ -164,26 +163,20 @@ class Run:
         self.program = program.path()
         self.status, self.text = self.ask(*self.passed)
 
-    def begun(self):
-        try:
-            return subprocess.Popen([self.program, *self.passed], stdout=subprocess.PIPE)
-        except OSError as fault:
-            raise program.NoProgram(f"the program can't be run: {fault}") from fault
-
     def hand_on(self):
         """Runs the program, and hands on what it writes as it comes."""
         output = Output(self.options.output)
         try:
-            with self.begun() as process:
-                try:
-                    self.hand_on_from(process, output)
-                except OSError as fault:
-                    self.fault = fault
-                    process.stdout.close()
-                except BaseException:
-                    process.terminate()
-                    raise
-                self.status = process.wait()
+            started = program.Started(self.program, *self.passed)
+            try:
+                self.hand_on_from(started, output)
+            except OSError as fault:
+                self.fault = fault
+            except BaseException:
+                started.end()
+                raise
+            finally:
+                self.status = started.wait()
             if self.fault is None:
                 self.end(output)
         finally:
@@ -191,10 +184,10 @@ class Run:
         if self.fault is not None:
             self.status = UNWRITTEN
 
-    def hand_on_from(self, process, output):
-        """Hands on what a process writes, and keeps the beginning of it."""
+    def hand_on_from(self, started, output):
+        """Hands on what a run of the program writes, and keeps the beginning of it."""
         kept, size = [], 0
-        while piece := os.read(process.stdout.fileno(), 1 << 16):
+        while piece := started.read():
             if size < KEPT:
                 kept.append(piece)
                 size += len(piece)
@@ -220,6 +213,7 @@ class Output:
 
     def open_beside(self):
         """Opens a new file beside the one that is to be written."""
+        import tempfile
         try:
             self.handle, self.name = tempfile.mkstemp(prefix=f".{os.path.basename(self.path)}.", dir=os.path.dirname(self.path) or ".")
         except OSError as fault:

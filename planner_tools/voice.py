@@ -1,7 +1,6 @@
 """What is said on the error stream: refusals, warnings and notes, in colour where it is a terminal."""
 import os
 import sys
-import textwrap
 
 RED, YELLOW, BLUE, PLAIN = "\x1b[1;31m", "\x1b[1;33m", "\x1b[1;34m", "\x1b[0m"
 # How wide the lines are on a terminal that doesn't tell its width.
@@ -10,6 +9,14 @@ WIDTH = 150
 
 def has_colour(stream):
     return stream.isatty() and not os.environ.get("NO_COLOR") and os.environ.get("TERM") != "dumb"
+
+
+def wrapped(text):
+    """The lines of a text below another line."""
+    if len(text) <= WIDTH - 4 and not any(one.isspace() and one != " " for one in text):
+        return ["    " + text.rstrip(" ")] if text.strip(" ") else [""]
+    import textwrap
+    return textwrap.wrap(text, WIDTH, initial_indent="    ", subsequent_indent="      ", break_long_words=False, break_on_hyphens=False) or [""]
 
 
 class Voice:
@@ -32,8 +39,7 @@ class Voice:
 
     def say(self, head, colour, what, more):
         lines = [f"{colour}{head.rstrip()}{PLAIN} {what}" if self.has_colour else head + what]
-        lines += [line for one in more for line in (textwrap.wrap(one, WIDTH, initial_indent="    ", subsequent_indent="      ", break_long_words=False,
-                                                                 break_on_hyphens=False) or [""])]
+        lines += [line for one in more for line in wrapped(one)]
         try:
             self.stream.write("\n".join(line.encode("utf-8", "replace").decode() for line in lines) + "\n")
             self.stream.flush()
