@@ -1,4 +1,5 @@
 """The words of the command line: the front end's options, and which command is named."""
+import os
 import sys
 
 from planner_tools import program
@@ -52,8 +53,21 @@ def ended(number, _):
     raise SystemExit(128 + number)
 
 
+def fill_gaps():
+    """Where the front end was begun without a standard stream, puts something in its place, so that no file that it opens gets its number: from the input
+    nothing can be read, to the output nothing can be written, and what is said goes nowhere. The program is begun without that stream too."""
+    for number, mode in ((0, os.O_WRONLY), (1, os.O_RDONLY), (2, os.O_WRONLY)):
+        try:
+            os.fstat(number)
+        except OSError:
+            os.open(os.devnull, mode)
+    sys.stdout = sys.stdout or open(1, "w", encoding="utf-8", closefd=False)
+    sys.stderr = sys.stderr or open(2, "w", encoding="utf-8", closefd=False)
+
+
 def main(words):
     """Does what the words say, and returns the exit status."""
+    fill_gaps()
     status = answer(words)
     try:
         sys.stdout.flush()
@@ -64,7 +78,6 @@ def main(words):
 
 def unwritten(fault):
     """Says that the standard output couldn't be written, and sees that it isn't tried again."""
-    import os
     from planner_tools.voice import Voice
     os.dup2(os.open(os.devnull, os.O_WRONLY), 1)
     Voice().refuse(f"the standard output: the output couldn't all be written: {fault.strerror}; what is there isn't whole")
@@ -102,7 +115,6 @@ def answer(words):
 
 def unfolded(words):
     """The words of a command of the front end, where a folder stands for the names of files that are left out before its options."""
-    import os
     if words[0] not in UNFOLDING or len(words) < 2 or not os.path.isdir(words[1]):
         return words
     from planner_tools.proved import Run

@@ -47,6 +47,8 @@ def run(work, words):
 def read_bytes(path):
     """The bytes of a file, or of the standard input for `-`."""
     try:
+        if path == "-" and sys.stdin is None:
+            raise Refused("the standard input is closed", status=UNREADABLE)
         if path == "-":
             return sys.stdin.buffer.read()
         with open(path, "rb") as file:

@@ -125,9 +125,9 @@ class Update(Comparison):
         if not self.asked:
             say(f"{self.next_words()} of {self.core.rounds} is next: press Enter when all packets that entered before have left")
             self.asked = True
-        if not select.select([sys.stdin], [], [], 0)[0]:
+        if sys.stdin is not None and not select.select([sys.stdin], [], [], 0)[0]:
             return False
-        if not os.read(sys.stdin.fileno(), 4096):
+        if sys.stdin is None or not os.read(sys.stdin.fileno(), 4096):
             raise Stop("the input with the operator's answers ended", "go on with --resume")
         return True
 

@@ -151,7 +151,7 @@ class Update:
     def ask(self):
         if self.options.yes:
             return
-        if not sys.stdin.isatty():
+        if sys.stdin is None or not sys.stdin.isatty():
             raise Stopped("the question", "there is no terminal to ask", "answer it with --yes, or look first with --dry-run")
         print("Carry it out? [y/N] ", end="", file=sys.stderr, flush=True)
         if sys.stdin.readline().strip().lower() not in ("y", "yes"):
