@@ -59,20 +59,19 @@ def listed(root):
 
 def marks(root, crates):
     """The files of the crates, from the root on, each with what the system says of it, sorted. Those that editors keep, `.NAME` and `NAME~`, don't count."""
-    rows, folders = [], [f"crates/{name}/{part}" for name, _ in crates for part in PARTS]
+    rows, folders = [], [folder for folder in (f"crates/{name}/{part}" for name, _ in crates for part in PARTS) if os.path.lexists(f"{root}/{folder}")]
     while folders:
         folder = folders.pop()
         try:
-            with os.scandir(os.path.join(root, folder)) as entries:
+            with os.scandir(f"{root}/{folder}") as entries:
                 for entry in entries:
-                    if entry.name.startswith(".") or entry.name.endswith("~"):
+                    name = entry.name
+                    if name[0] == "." or name[-1] == "~":
                         continue
                     if entry.is_dir(follow_symlinks=False):
-                        folders.append(f"{folder}/{entry.name}")
+                        folders.append(f"{folder}/{name}")
                     else:
-                        rows.append((f"{folder}/{entry.name}", entry.stat()))
-        except FileNotFoundError:        # not every crate has all parts
-            continue
+                        rows.append((f"{folder}/{name}", entry.stat()))
         except OSError as fault:
             raise Unfit(f"{folder} can't be read: {fault.strerror}") from fault
     return sorted(rows, key=lambda row: row[0])
@@ -155,13 +154,18 @@ def suits(root):
 # ---- what is remembered
 
 def state(root):
-    """The sizes, times and numbers of all files that count, as text, and the last moment at which one of them was changed."""
+    """The sizes, times and numbers of all files that count, as text, and what the system says of each of them."""
     try:
         rows = [(path, os.stat(os.path.join(root, path))) for path in (PROGRAM, TEXT, CRATES, HANDLES, TOOLCHAINS)] + marks(root, listed(root))
     except OSError as fault:
         raise Unfit(f"{fault.filename}: {fault.strerror}") from fault
     text = "".join(f"{path} {it.st_size} {it.st_mtime_ns} {it.st_ctime_ns} {it.st_ino}\n" for path, it in rows)
-    return text, max(max(it.st_mtime, it.st_ctime) for _, it in rows)
+    return text, [it for _, it in rows]
+
+
+def last_change(rows):
+    """The last moment at which one of the files was changed."""
+    return max(max(it.st_mtime, it.st_ctime) for it in rows)
 
 
 def remembered(root, text):
@@ -191,7 +195,7 @@ def remember(root, text, what):
 def judged(root):
     """Raises Unfit where the text isn't that of the files here, by what is remembered or by reading them."""
     moment = time.time()
-    text, last = state(root)
+    text, rows = state(root)
     what = remembered(root, text)
     if what is None:
         try:
@@ -199,7 +203,7 @@ def judged(root):
             what = FITS
         except Unfit as fault:
             what = str(fault)
-        if last < moment - LEAST_AGE:
+        if last_change(rows) < moment - LEAST_AGE:
             remember(root, text, what)
     if what != FITS:
         raise Unfit(what)

@@ -56,7 +56,7 @@ def dependencies(path):
 
 
 def control(built, size):
-    about = ABOUT.format(origin="\n ".join(textwrap.wrap(toolchain.origin(built), 78)))
+    about = ABOUT.format(origin="\n ".join(textwrap.wrap(toolchain.origin(built), 78, break_on_hyphens=False)))
     return (f"Package: {NAME}\nVersion: {VERSION}\nArchitecture: {architecture()}\nMaintainer: {MAINTAINER}\nInstalled-Size: {size}\nDepends: {dependencies(built)}\n"
             f"Suggests: graphviz, openvswitch-switch\nSection: net\nPriority: optional\nDescription: {about}")
 
@@ -124,8 +124,9 @@ def main(words):
     except program.NoProgram as fault:
         print(f"debian.py: {fault}", file=sys.stderr)
         return program.NO_PROGRAM
-    day = files.day_of(ROOT)
-    target = os.path.join(words[0] if words else ".", f"{NAME}_{VERSION}_{architecture()}.deb")
+    day, place = files.day_of(ROOT), words[0] if words else "."
+    os.makedirs(place, exist_ok=True)
+    target = os.path.join(place, f"{NAME}_{VERSION}_{architecture()}.deb")
     with tempfile.TemporaryDirectory() as folder:
         os.chmod(folder, 0o755)
         fill(folder, built, day)

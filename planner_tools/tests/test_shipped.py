@@ -108,7 +108,7 @@ class Shipped(unittest.TestCase):
     def test_the_least_age_counts_from_the_last_change_of_any_file(self):
         """Also of one whose time of writing was set back."""
         os.utime(os.path.join(self.root, "crates/base/src/lib.rt"), (1000, 1000))
-        last = shipped.state(self.root)[1]
+        last = shipped.last_change(shipped.state(self.root)[1])
         for later, is_seen in ((shipped.LEAST_AGE - 0.5, False), (shipped.LEAST_AGE + 0.5, True)):
             with unittest.mock.patch.object(shipped.time, "time", lambda later=later: last + later):
                 self.assertIsNone(self.why_not())
@@ -156,6 +156,13 @@ class Shipped(unittest.TestCase):
     def test_a_file_that_cannot_be_read(self):
         os.chmod(os.path.join(self.root, "crates/base/src/lib.rt"), 0)
         self.assertIn("crates/base/src/lib.rt can't be read", self.why_not())
+
+    def test_a_link_is_no_file_of_a_crate(self):
+        path = os.path.join(self.root, "crates/base/src/a.rt")
+        for target, why in (("none", "crates/base/src can't be read: No such file or directory"), ("../specs", "crates/base/src/a.rt is no file")):
+            os.symlink(target, path)
+            self.assertEqual(self.why_not(), why)
+            os.unlink(path)
 
     def test_where_there_is_none_or_it_is_damaged(self):
         write(self.root, shipped.TEXT, "toolchain one logic 1\n")
