@@ -167,13 +167,8 @@ def entry_at(path, refusal):
     return None
 
 
-def main(words):
-    parser = argparse.ArgumentParser(prog="planner collect", description=__doc__, formatter_class=argparse.RawDescriptionHelpFormatter)
-    parser.add_argument("topology", metavar="TOPOLOGY")
-    parser.add_argument("--switches", metavar="FILE", required=True)
-    parser.add_argument("--listen", metavar="HOST:PORT", type=host_and_port)
-    parser.add_argument("--patience", metavar="SECONDS", type=float, default=15.0)
-    options = parser.parse_args(words)
+def read(options):
+    """Reads the tables of all switches: `options` has the topology, the file of switches, where they connect to, and the patience."""
     switches = None
     try:
         listed = read_switches(options.switches, options.topology)
@@ -188,12 +183,22 @@ def main(words):
                     tables.ask(connection)
                 elif what == "message":
                     tables.take(connection, message)
-        sys.stdout.write(tables.replies())
-        return 0
-    except (Stop, OSError) as stop:
-        say(f"stopped: {stop}. Next: {getattr(stop, 'then', 'see to it, and ask again')}")
-        return 1
+        return tables
     finally:
         if switches is not None:
             switches.close()
 
+
+def main(words):
+    parser = argparse.ArgumentParser(prog="planner collect", description=__doc__, formatter_class=argparse.RawDescriptionHelpFormatter)
+    parser.add_argument("topology", metavar="TOPOLOGY")
+    parser.add_argument("--switches", metavar="FILE", required=True)
+    parser.add_argument("--listen", metavar="HOST:PORT", type=host_and_port)
+    parser.add_argument("--patience", metavar="SECONDS", type=float, default=15.0)
+    options = parser.parse_args(words)
+    try:
+        sys.stdout.write(read(options).replies())
+        return 0
+    except (Stop, OSError) as stop:
+        say(f"stopped: {stop}. Next: {getattr(stop, 'then', 'see to it, and ask again')}")
+        return 1

@@ -9,7 +9,7 @@ import time
 from planner_tools.proved import say_why
 from planner_tools.switches import openflow
 from planner_tools.switches.collect import Tables
-from planner_tools.switches.connections import OWN, Stop, lock, read_switches, say
+from planner_tools.switches.connections import OWN, Stop, lock, progress, read_switches
 from planner_tools.switches.marks import MARK_XID, Mark
 from planner_tools.switches.record import Record
 from planner_tools.switches.served import Core, Ended, Serve, run_beside
@@ -139,7 +139,7 @@ class Conversation:
             raise Stop(f"the patience of {self.options.patience:g} s is at its end: {name} {self.why_awaited(name)}", f"see that {name} is connected and answers; then go on with --resume")
         if now - self.told > self.options.patience / TOLD:
             self.told = now
-            say(f"{waited:.0f} s: {self.state()}")
+            progress(f"{waited:.0f} s: {self.state()}")
 
     def why_awaited(self, name):
         if name not in self.switches.named:
@@ -156,7 +156,7 @@ class Conversation:
             self.up(connection)
         elif what == "down":
             self.record.remark_seldom(name, f"{name} closed its connection")
-            say(f"{name} closed its connection; {self.state()}")
+            progress(f"{name} closed its connection; {self.state()}")
             self.tables.forget(name)
         elif self.tables.take(connection, message):
             if self.tables.answers[name].is_whole and not connection.is_good:
@@ -190,7 +190,7 @@ class Conversation:
         name = connection.name
         words = f"{name} is connected: {connection.peer}, datapath id {connection.datapath:016x}"
         self.record.remark_seldom(name, words)
-        say(words)
+        progress(words)
         if name in self.owed:
             connection.send(self.owed[name][0])
         self.tables.ask(connection)
@@ -231,7 +231,7 @@ class Conversation:
         if self.core.is_running:
             words = f"{name} has what it must have; its session is opened anew, and what it hasn't answered of {self.round_words()} is sent again"
             self.record.remark_seldom(name + " again", words)
-            say(words)
+            progress(words)
 
     def awaited(self):
         """The switches for which the update waits: they are away, or owe an answer."""
