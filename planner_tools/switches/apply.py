@@ -81,7 +81,7 @@ class Update(Comparison):
         self.compare()
         self.compare_as_configuration("after", wanted)
         self.take_marks_away()
-        while self.tables.missing():         # of a switch whose connection was lost meanwhile
+        while not self.has_all():            # a switch whose connection was lost meanwhile is looked at again
             self.pump()
         if self.suspects:
             self.compare()

@@ -73,8 +73,8 @@ class Comparison(Conversation):
         for _ in range(TRIES + 1):
             found = self.read_all()
             if not found:
-                for connection in list(self.switches.named.values()):
-                    self.let_on(connection)
+                for answers in list(self.tables.answers.values()):
+                    self.let_on(answers.connection)
                 self.compared_at = now_words()
                 return is_first
             self.tell_differences(found)
@@ -91,11 +91,11 @@ class Comparison(Conversation):
             self.tables.forget(name)
         for connection in list(self.switches.named.values()):
             self.tables.ask(connection)
-        while self.tables.missing() or self.owed:
-            self.pump()
-        found = [one for name in self.listed for one in self.differences(name)]
-        while self.owed:
-            self.pump()
+        found = None
+        while found is None or not self.has_all():       # a switch that came back while a program ran has answered on a connection that is no more
+            while not self.has_all():
+                self.pump()
+            found = [one for name in self.listed for one in self.differences(name)]
         self.is_reading = False
         self.suspects.clear()
         return found

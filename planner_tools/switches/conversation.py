@@ -157,9 +157,9 @@ class Conversation:
         elif what == "down":
             self.record.remark_seldom(name, f"{name} closed its connection")
             progress(f"{name} closed its connection; {self.state()}")
-            self.tables.forget(name)
+            self.tables.lost(connection)
         elif self.tables.take(connection, message):
-            if self.tables.answers[name].is_whole and not connection.is_good:
+            if self.tables.are_of(connection) and not connection.is_good:
                 connection.heard_at = connection.heard_at or time.monotonic()
                 self.look_at_returned(connection)
         elif not openflow.is_message(message):
@@ -210,10 +210,20 @@ class Conversation:
                 one.is_asked_again = True
                 self.tables.ask(one)
 
+    def stands(self, name):
+        """Whether a switch has a connection, and has answered on it for its table. What it answered on an older one says nothing of the table it has by now."""
+        return name in self.switches.named and self.tables.are_of(self.switches.named[name])
+
+    def has_all(self):
+        """Whether each switch stands, and nothing waits to be heard or answered."""
+        return not self.events and not self.owed and all(self.stands(name) for name in self.listed)
+
     def let_on(self, connection):
-        """A switch has what it must have, so the update goes on on its connection. Where an older one leaves it unsure what the switch has got, that is a new
-        session, and `serve` says what the switch has to be sent again."""
+        """A switch has what it must have, so the update goes on on its connection, on which it answered so. Where an older one leaves it unsure what the switch
+        has got, that is a new session, and `serve` says what the switch has to be sent again."""
         name = connection.name
+        if self.switches.named.get(name) is not connection or not self.stands(name):
+            return               # it has connected anew while a program ran, and is asked first
         is_anew = self.must_reopen(name)
         if connection.is_good or is_anew and self.core.begun and not self.has_stood(connection):
             return
