@@ -19,6 +19,8 @@ MODULES = {
 }
 # Those of them whose answer `-o FILE` takes.
 WITH_OUTPUT = ("collect", "from-graphml", "from-mininet", "from-ofctl", "page", "show")
+# Those of them that are quiet or strict themselves.
+WITH_FLAGS = ("apply", "update")
 # Those of them in which a folder stands for names.
 UNFOLDING = ("apply", "collect", "page")
 WRONG_WORDS, UNWRITTEN, INTERRUPTED = 2, 7, 130
@@ -28,7 +30,11 @@ class Options:
     """The options of the front end, taken out of the words."""
 
     def __init__(self):
-        self.is_quiet, self.is_strict, self.output = False, False, None
+        self.is_quiet, self.is_strict, self.is_warned, self.output = False, False, False, None
+
+    def flags(self):
+        """Those that a command of the front end takes itself."""
+        return ["--quiet"] * self.is_quiet + ["--strict"] * self.is_strict
 
 
 def take_options(words):
@@ -127,6 +133,7 @@ def unfolded(words):
 def run_module(words, options):
     """Runs a command of the front end itself; with `-o` its output goes into a file, which is there only where the status is 0."""
     import importlib
+    words = [*words, *options.flags()] if words[0] in WITH_FLAGS else words
     command, words = importlib.import_module(MODULES[words[0]]).main, unfolded(words)
     if options.output is None:
         try:

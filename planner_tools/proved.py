@@ -12,19 +12,44 @@ WRONG_WORDS, BAD_FILE, UNREAD, UNWRITTEN = 2, 3, 6, 7
 STANDARD_OUTPUT = 1
 
 
-class Refusals:
-    """The options of a run of which only refusals are told."""
+class How:
+    """How a person wants runs of the program: quiet, where only refusals are told; strict, where warnings end them; or with the warnings about their files
+    said already, by `look`."""
 
-    is_quiet, is_strict, output = True, False, None
+    output = None
+
+    def __init__(self, is_quiet=False, is_strict=False, is_warned=False):
+        self.is_quiet, self.is_strict, self.is_warned = is_quiet, is_strict, is_warned
+
+    def behind_warnings(self):
+        """The same for runs over files whose warnings were said."""
+        return How(self.is_quiet, self.is_strict, True)
+
+
+REFUSALS = How(is_quiet=True)
+
+
+def answer_for(how, *given, good=(0,)):
+    """Runs the program for a person, of whose answer more is to be made. Returns its status and its text."""
+    run = Run(list(map(str, given)), how)
+    run.for_person(run.keep_all, program.path, good)
+    return run.status, run.text
 
 
 def say_why(*given, good=(0,)):
     """Runs the program, and says what its answer means where its status is no good one. Returns its status and its text."""
-    run = Run(list(map(str, given)), Refusals)
-    run.capture()
-    if run.status not in good:
-        run.safely(run.explain)
-    return run.status, run.text
+    return answer_for(REFUSALS, *given, good=good)
+
+
+def look(how, *given):
+    """Says what there is to warn of in the files of a run that is to come. Returns whether that ends it: there are warnings, and `how` is strict."""
+    run = Run(list(map(str, given)), how)
+    run.resolve()
+    run.program = program.path()
+    is_ended = run.is_ended_by_warnings()
+    if not is_ended:
+        run.say_notes()
+    return is_ended
 
 
 class Stop(Exception):
@@ -119,17 +144,34 @@ class Run:
     # ---- the run
 
     def run(self):
-        """Runs the program, says what is to be said, and returns the exit status."""
+        """Runs the program, hands its text on, and returns the exit status."""
+        return self.for_person(self.hand_on, program.built)
+
+    def for_person(self, work, find, good=(0,)):
+        """The one way in which the program is run for a person: the warnings about its files before it, its answer as `work` takes it, and what that means
+        behind it, where its status is no good one. Returns the exit status."""
         self.resolve()
-        self.program = program.built()
-        if self.files and (not self.options.is_quiet or self.options.is_strict) and self.has_warnings() and self.options.is_strict:
+        self.program = find()
+        if self.is_ended_by_warnings():
+            self.status = BAD_FILE
             self.voice.refuse("nothing is written, as there are warnings and --strict is given")
             return BAD_FILE
-        self.hand_on()
-        self.safely(self.explain)
-        for one in self.notes if self.status == 0 else []:
-            self.voice.note(one.what, one.more)
+        work()
+        if self.status not in good or self.status == 0:
+            self.safely(self.explain)
+        if self.status == 0:
+            self.say_notes()
         return self.status if self.status >= 0 else 128 - self.status
+
+    def is_ended_by_warnings(self):
+        """Says the warnings about the files, where they aren't said already; and whether they are the end."""
+        if not self.files or self.options.is_warned or self.options.is_quiet and not self.options.is_strict:
+            return False
+        return self.has_warnings() and self.options.is_strict
+
+    def say_notes(self):
+        for one in self.notes:
+            self.voice.note(one.what, one.more)
 
     def has_warnings(self):
         from planner_tools.cautions import cautions
@@ -157,10 +199,8 @@ class Run:
             self.voice.note(f"no more can be said of this: {type(fault).__name__}: {fault}")
             return None
 
-    def capture(self):
+    def keep_all(self):
         """Runs the program, and keeps its text, which isn't handed on."""
-        self.resolve()
-        self.program = program.path()
         self.status, self.text = self.ask(*self.passed)
 
     def hand_on(self):

@@ -1,4 +1,4 @@
-"""What is said on the error stream: refusals, warnings and notes, in colour where it is a terminal."""
+"""What is said on the error stream: refusals, warnings and notes, in colour where it is a terminal; and lines on work that goes on."""
 import os
 import sys
 
@@ -45,3 +45,38 @@ class Voice:
             self.stream.flush()
         except OSError:
             pass
+
+
+class Telling:
+    """Lines on work that goes on. Where nobody hears them any more that is noted, and what is said from then on goes to the terminal, where there is one."""
+
+    def __init__(self):
+        self.is_quiet = False        # whether only refusals are said, and questions
+        self.fault = None            # why the error stream couldn't be written
+
+    def say(self, words, end="\n"):
+        """Says a line that has to be heard: why something ended, or a question."""
+        try:
+            if sys.stderr is not None:
+                print(words, end=end, file=sys.stderr, flush=True)
+        except OSError as fault:
+            self.fault = self.fault or fault
+            turn_to_terminal()
+
+    def progress(self, words):
+        """Says a line on what goes on, where it isn't quiet."""
+        if not self.is_quiet:
+            self.say(words)
+
+
+def turn_to_terminal():
+    """Has the error stream lead to the terminal, and where there is none, nowhere."""
+    try:
+        other = os.open("/dev/tty", os.O_WRONLY | os.O_NOCTTY)
+    except OSError:
+        other = os.open(os.devnull, os.O_WRONLY)
+    os.dup2(other, sys.stderr.fileno())
+    os.close(other)
+
+
+TELLING = Telling()

@@ -2,7 +2,7 @@
 carries bytes.
 
     planner apply TOPOLOGY OLD NEW POLICY PLAN INPUT --switches FILE [--listen HOST:PORT] [--wait SECONDS | --ask] [--patience SECONDS]
-                  [--resume] [--back] [--repair] [--take-over] [--no-mark]
+                  [--resume] [--back] [--repair] [--take-over] [--no-mark] [--strict] [--quiet]
 
 FILE and --listen are those of `planner collect`. INPUT is the record of the update, a new file. `planner serve` stays beside this script for the whole run: it
 is given a line for each round that begins, for what the switches send, and for each session that is opened anew, and what it answers is sent. Each line is
@@ -19,25 +19,30 @@ and how far the update came.
     --repair            where a switch doesn't have what it must have, give it that, by messages of `planner emit`, in place of stopping
     --take-over         take away the marks of other updates from the switches: their controllers are to stop
     --no-mark           put no mark on the switches: another controller isn't told of this update, and its mark isn't minded
+    --strict, --quiet   end where there is something to warn of in the files; say nothing but refusals, and what is asked by --ask
 
 What the switches have is read when a run begins, before each round, after each lost connection and at the end, and compared with what `planner tables`
 says they must have. At the beginning and at the end the program itself compares it with OLD and NEW: INPUT.before and INPUT.after keep what the switches
 answered, and INPUT.before.json and INPUT.after.json the configurations.
 
 Exit status: 0 all rounds are settled and the switches have NEW, or with --back none is and they have OLD; 1 stopped, a line says why, how far it came, and
-what to do next; 2 wrong words.
+what to do next; 2 wrong words; 3 warnings, with --strict: nothing was sent.
 """
 import argparse
 import os
 import select
-import signal
 import sys
 import time
 
-from planner_tools.switches import openflow
+from planner_tools import program
+from planner_tools.proved import How, look
+from planner_tools.switches import ends, openflow
 from planner_tools.switches.comparison import Comparison
-from planner_tools.switches.connections import Stop, Switches, host_and_port, say
+from planner_tools.switches.connections import Stop, Switches, host_and_port, progress, say
+from planner_tools.voice import TELLING
 
+# The exit status where warnings end it.
+WARNED = 3
 # What to do after an error of a switch, by its type and code; then the update is taken up.
 AFTER_ERROR = {(3, 0): "make room in its table (entries for other traffic; the capacity in the topology has to leave them room)",
                (3, 2): "let this controller change its table", (1, 5): "let this controller change its table: has another one made itself its master?"}
@@ -49,7 +54,7 @@ class Update(Comparison):
     def run(self):
         begun = time.monotonic()
         self.open_core()
-        say(f"the plan is accepted; {self.state()}")
+        progress(f"the plan is accepted; {self.state()}")
         if self.options.back and self.core.is_running and not self.core.is_back:
             self.turn()
         self.switches = Switches(self.listed, self.options.listen, self.options.patience)
@@ -76,7 +81,7 @@ class Update(Comparison):
         self.compare()
         self.compare_as_configuration("after", wanted)
         self.take_marks_away()
-        while self.tables.missing():         # of a switch whose connection was lost meanwhile
+        while not self.has_all():            # a switch whose connection was lost meanwhile is looked at again
             self.pump()
         if self.suspects:
             self.compare()
@@ -84,7 +89,7 @@ class Update(Comparison):
         what = f"all {self.core.rounds} rounds are settled"
         if self.options.back:
             what = f"no round is settled any more, {self.core.carried_out} were carried out and {self.core.undone} undone" if self.core.begun else "no round was begun"
-        say(f"done: {what}, and the switches have the tables of {wanted}; {time.monotonic() - begun:.1f} s; the record is {self.options.input}")
+        progress(f"done: {what}, and the switches have the tables of {wanted}; {time.monotonic() - begun:.1f} s; the record is {self.options.input}")
 
     def is_on_the_way(self):
         """Whether the update is neither at its beginning nor at its end."""
@@ -102,7 +107,7 @@ class Update(Comparison):
         """Turns the running round. Its messages are sent when the switches are there: to each that has what it must have, behind `reopen`."""
         words = f"round {self.core.number()} is turned back"
         self.record.remark(words)
-        say(words)
+        progress(words)
         self.record.give("back")
         self.follow()
 
@@ -142,7 +147,7 @@ class Update(Comparison):
         each = sum(self.cycles[-20:]) / len(self.cycles[-20:]) if self.cycles else least
         time_left = "" if self.options.ask or not left else f"; {left} left, some {duration(each * left)}"
         is_undone = self.core.is_back and not self.core.is_running
-        say(f"round {self.core.settled + is_undone} of {self.core.rounds} is {'undone' if is_undone else 'settled'}{seconds}{time_left}")
+        progress(f"round {self.core.settled + is_undone} of {self.core.rounds} is {'undone' if is_undone else 'settled'}{seconds}{time_left}")
 
     def after_refusal(self, status, text):
         go_on = "go on with --resume" if self.options.resume or self.record.starts else "begin again"
@@ -192,7 +197,7 @@ def stopped(update, options, why):
     if isinstance(why, Stop):
         what, then = why.what, why.then
     elif isinstance(why, KeyboardInterrupt):
-        what, then = "the operator ended it", go_on
+        what, then = ends.interrupt_words(why), go_on
     else:
         what, then = f"{why.filename}: {why.strerror}" if getattr(why, "filename", None) else str(why), f"see to it; then {go_on}"
     then = other_ways(update, options, then)
@@ -237,19 +242,37 @@ def parser_of_words():
     parser.add_argument("--repair", action="store_true")
     parser.add_argument("--take-over", action="store_true")
     parser.add_argument("--no-mark", action="store_true")
+    parser.add_argument("--strict", action="store_true")
+    parser.add_argument("--quiet", action="store_true")
     return parser
 
 
-def main(words):
+def is_ended_by_warnings(options, how):
+    """Says the warnings about the files. Whether they are the end; nothing was done by then."""
+    try:
+        is_ended = look(how, "check", options.topology, options.old, options.new, options.policy, options.plan)
+    except program.NoProgram:
+        return False         # that is said where the program is begun
+    if is_ended:
+        say(f"stopped: there are warnings, and --strict is given; nothing was sent{' in this run' if options.resume else ''}. Next: correct what they name, or leave out --strict")
+    return is_ended
+
+
+def main(words, how=None):
+    """Does what the words say. `how` is that of a command that does this one as its last step."""
     options = parser_of_words().parse_args(words)
     options.resume = options.resume or options.back       # only what is begun can be turned
-    signal.signal(signal.SIGTERM, signal.default_int_handler)
+    TELLING.is_quiet = TELLING.is_quiet or options.quiet
+    ends.heed_signals()
     update = None
     try:
+        if is_ended_by_warnings(options, how or How(options.quiet, options.strict)):
+            return WARNED
         update = Update(options)
         update.run()
         return 0
     except (Stop, OSError, KeyboardInterrupt) as why:
+        ends.mind_no_signals()
         stopped(update, options, why)
         return 1
     finally:

@@ -56,12 +56,22 @@ class Tables:
         """A switch has to answer anew."""
         self.answers[name] = Answers()
 
+    def lost(self, connection):
+        """A connection is lost: what its switch answered on it counts no more."""
+        if self.answers[connection.name].connection is connection:
+            self.forget(connection.name)
+
     def ask(self, connection):
         """Asks a switch, from the beginning. What it still answers to earlier questions is passed over, by its xid."""
         self.runs += 1
         base = FIRST_RUN + 4 * (self.runs % RUNS)
-        self.answers[connection.name] = Answers(base)
+        self.answers[connection.name] = Answers(base, connection)
         connection.send(questions(base))
+
+    def are_of(self, connection):
+        """Whether the switch has answered all on this connection."""
+        answers = self.answers[connection.name]
+        return answers.is_whole and answers.connection is connection
 
     def take(self, connection, message):
         """Takes a message where it answers a question."""
@@ -69,6 +79,8 @@ class Tables:
         xid = openflow.xid_of(message)
         if not openflow.is_message(message) or not FIRST_RUN <= xid < FIRST_RUN + 4 * RUNS:
             return False
+        if connection is not answers.connection:
+            return True               # it came on an older connection
         xid -= answers.base
         if kind == openflow.STATS_REPLY and xid == FLOW_XID:
             answers.flow.append(message)
@@ -167,13 +179,8 @@ def entry_at(path, refusal):
     return None
 
 
-def main(words):
-    parser = argparse.ArgumentParser(prog="planner collect", description=__doc__, formatter_class=argparse.RawDescriptionHelpFormatter)
-    parser.add_argument("topology", metavar="TOPOLOGY")
-    parser.add_argument("--switches", metavar="FILE", required=True)
-    parser.add_argument("--listen", metavar="HOST:PORT", type=host_and_port)
-    parser.add_argument("--patience", metavar="SECONDS", type=float, default=15.0)
-    options = parser.parse_args(words)
+def read(options):
+    """Reads the tables of all switches: `options` has the topology, the file of switches, where they connect to, and the patience."""
     switches = None
     try:
         listed = read_switches(options.switches, options.topology)
@@ -188,12 +195,22 @@ def main(words):
                     tables.ask(connection)
                 elif what == "message":
                     tables.take(connection, message)
-        sys.stdout.write(tables.replies())
-        return 0
-    except (Stop, OSError) as stop:
-        say(f"stopped: {stop}. Next: {getattr(stop, 'then', 'see to it, and ask again')}")
-        return 1
+        return tables
     finally:
         if switches is not None:
             switches.close()
 
+
+def main(words):
+    parser = argparse.ArgumentParser(prog="planner collect", description=__doc__, formatter_class=argparse.RawDescriptionHelpFormatter)
+    parser.add_argument("topology", metavar="TOPOLOGY")
+    parser.add_argument("--switches", metavar="FILE", required=True)
+    parser.add_argument("--listen", metavar="HOST:PORT", type=host_and_port)
+    parser.add_argument("--patience", metavar="SECONDS", type=float, default=15.0)
+    options = parser.parse_args(words)
+    try:
+        sys.stdout.write(read(options).replies())
+        return 0
+    except (Stop, OSError) as stop:
+        say(f"stopped: {stop}. Next: {getattr(stop, 'then', 'see to it, and ask again')}")
+        return 1

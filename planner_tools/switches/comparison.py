@@ -3,8 +3,9 @@ import json
 import struct
 import time
 
+from planner_tools.proved import say_why
 from planner_tools.switches.collect import entry_at
-from planner_tools.switches.connections import Stop, say
+from planner_tools.switches.connections import Stop, progress, say
 from planner_tools.switches.conversation import REPAIR_BARRIER, REPAIR_XID, Conversation, temporary, write
 from planner_tools.switches.expected import Expected, repair_plan
 from planner_tools.switches.marks import MARK_BARRIER
@@ -52,7 +53,7 @@ class Comparison(Conversation):
                        "wait for its end, then go on with --resume; where nothing is at work with it any more, --resume --take-over takes its mark away")
         for mark in others:
             self.taken_away.add((name, mark))
-            say(f"{name}: the mark of the update {mark} is taken away")
+            progress(f"{name}: the mark of the update {mark} is taken away")
             self.record.remark(f"{name}: the mark of the update {mark} is taken away")
         self.say_to(name, b"".join(mark.take_away() for mark in others), MARK_BARRIER)
 
@@ -72,8 +73,8 @@ class Comparison(Conversation):
         for _ in range(TRIES + 1):
             found = self.read_all()
             if not found:
-                for connection in list(self.switches.named.values()):
-                    self.let_on(connection)
+                for answers in list(self.tables.answers.values()):
+                    self.let_on(answers.connection)
                 self.compared_at = now_words()
                 return is_first
             self.tell_differences(found)
@@ -90,11 +91,11 @@ class Comparison(Conversation):
             self.tables.forget(name)
         for connection in list(self.switches.named.values()):
             self.tables.ask(connection)
-        while self.tables.missing() or self.owed:
-            self.pump()
-        found = [one for name in self.listed for one in self.differences(name)]
-        while self.owed:
-            self.pump()
+        found = None
+        while found is None or not self.has_all():       # a switch that came back while a program ran has answered on a connection that is no more
+            while not self.has_all():
+                self.pump()
+            found = [one for name in self.listed for one in self.differences(name)]
         self.is_reading = False
         self.suspects.clear()
         return found
@@ -155,7 +156,7 @@ class Comparison(Conversation):
         words = f"what differs at {', '.join(sorted({one.switch for one in found}))} is put right: {entries(len(others))} by the messages of `planner emit` for {path}"
         self.record.remark(words)
         self.record.keep()
-        say(words)
+        progress(words)
         while self.owed:
             self.pump()
         self.settled_at, self.asked = time.monotonic(), False       # packets that met it are under way
@@ -196,15 +197,18 @@ class Comparison(Conversation):
         status, text = self.import_tables(word)
         if status != 0:
             where = entry_at(f"{self.options.input}.{word}", text)
+            say_why("import", self.options.topology, f"{self.options.input}.{word}")
             raise Stop(f"`planner import` refuses the tables of the switches: {text.strip()}{f', which is {where}' if where else ''}",
                        f"change it at the switch, docs/FORMATS.md says what is wrong with it; then {'go on with --resume' if self.core.begun else 'begin again with another record'}")
         write(config, text)
         with temporary("plan", json.dumps(NO_ROUNDS).encode()) as name:
             status, text = self.ask("check", self.options.topology, config, path, self.options.policy, name)
+            if status != 0:
+                say_why("check", self.options.topology, config, path, self.options.policy, name)
         if status != 0:
             raise Stop(f"the switches don't have the tables of {path}: {text.strip()}", f"compare {config}, which has those that they have, with {path}")
         self.record.remark(f"the switches have the tables of {path}")
-        say(f"the switches have the tables of {path}")
+        progress(f"the switches have the tables of {path}")
 
 
 class MissingMark:

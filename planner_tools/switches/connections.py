@@ -10,12 +10,12 @@ import fcntl
 import os
 import selectors
 import socket
-import sys
 import time
 
 from planner_tools.files import NotJson, read_json
 from planner_tools.network import Network
 from planner_tools.switches import openflow
+from planner_tools.voice import TELLING
 
 # The upper half of all xids of these scripts' own messages. Those of `planner serve` count from 1 and are far below.
 OWN = 0xFEA70000
@@ -32,8 +32,7 @@ class Stop(Exception):
         self.what, self.then = what, then
 
 
-def say(words):
-    print(words, file=sys.stderr, flush=True)
+say, progress = TELLING.say, TELLING.progress
 
 
 def read_switches(path, topology):
@@ -285,7 +284,7 @@ class Switches:
             self.turn_away(one, f"has the datapath id {one.datapath:016x}, which is none of the file")
             return False
         if name in self.named:
-            say(f"{name} connects anew from {one.peer}; its older connection is closed")
+            progress(f"{name} connects anew from {one.peer}; its older connection is closed")
             self.drop(self.named[name])
         one.name = name
         self.named[name] = one
@@ -299,7 +298,7 @@ class Switches:
             raise Stop(f"{one.expected} ({one.peer}) {why}", f"let it speak OpenFlow 1.0 too (Open vSwitch: `ovs-vsctl set bridge {one.expected} protocols=OpenFlow10,OpenFlow13`)")
         known, who = (self.tried, one.expected) if one.expected else (self.strangers, one.peer.rpartition(":")[0])
         if known.get(who) != why:
-            say(f"the connection with {one.peer}{f' ({one.expected})' if one.expected else ''} {why}; it is closed")
+            progress(f"the connection with {one.peer}{f' ({one.expected})' if one.expected else ''} {why}; it is closed")
         known[who] = why
 
     def drop(self, one):

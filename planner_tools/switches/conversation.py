@@ -9,7 +9,7 @@ import time
 from planner_tools.proved import say_why
 from planner_tools.switches import openflow
 from planner_tools.switches.collect import Tables
-from planner_tools.switches.connections import OWN, Stop, lock, read_switches, say
+from planner_tools.switches.connections import OWN, Stop, lock, progress, read_switches
 from planner_tools.switches.marks import MARK_XID, Mark
 from planner_tools.switches.record import Record
 from planner_tools.switches.served import Core, Ended, Serve, run_beside
@@ -139,7 +139,7 @@ class Conversation:
             raise Stop(f"the patience of {self.options.patience:g} s is at its end: {name} {self.why_awaited(name)}", f"see that {name} is connected and answers; then go on with --resume")
         if now - self.told > self.options.patience / TOLD:
             self.told = now
-            say(f"{waited:.0f} s: {self.state()}")
+            progress(f"{waited:.0f} s: {self.state()}")
 
     def why_awaited(self, name):
         if name not in self.switches.named:
@@ -156,10 +156,10 @@ class Conversation:
             self.up(connection)
         elif what == "down":
             self.record.remark_seldom(name, f"{name} closed its connection")
-            say(f"{name} closed its connection; {self.state()}")
-            self.tables.forget(name)
+            progress(f"{name} closed its connection; {self.state()}")
+            self.tables.lost(connection)
         elif self.tables.take(connection, message):
-            if self.tables.answers[name].is_whole and not connection.is_good:
+            if self.tables.are_of(connection) and not connection.is_good:
                 connection.heard_at = connection.heard_at or time.monotonic()
                 self.look_at_returned(connection)
         elif not openflow.is_message(message):
@@ -190,7 +190,7 @@ class Conversation:
         name = connection.name
         words = f"{name} is connected: {connection.peer}, datapath id {connection.datapath:016x}"
         self.record.remark_seldom(name, words)
-        say(words)
+        progress(words)
         if name in self.owed:
             connection.send(self.owed[name][0])
         self.tables.ask(connection)
@@ -210,10 +210,20 @@ class Conversation:
                 one.is_asked_again = True
                 self.tables.ask(one)
 
+    def stands(self, name):
+        """Whether a switch has a connection, and has answered on it for its table. What it answered on an older one says nothing of the table it has by now."""
+        return name in self.switches.named and self.tables.are_of(self.switches.named[name])
+
+    def has_all(self):
+        """Whether each switch stands, and nothing waits to be heard or answered."""
+        return not self.events and not self.owed and all(self.stands(name) for name in self.listed)
+
     def let_on(self, connection):
-        """A switch has what it must have, so the update goes on on its connection. Where an older one leaves it unsure what the switch has got, that is a new
-        session, and `serve` says what the switch has to be sent again."""
+        """A switch has what it must have, so the update goes on on its connection, on which it answered so. Where an older one leaves it unsure what the switch
+        has got, that is a new session, and `serve` says what the switch has to be sent again."""
         name = connection.name
+        if self.switches.named.get(name) is not connection or not self.stands(name):
+            return               # it has connected anew while a program ran, and is asked first
         is_anew = self.must_reopen(name)
         if connection.is_good or is_anew and self.core.begun and not self.has_stood(connection):
             return
@@ -231,7 +241,7 @@ class Conversation:
         if self.core.is_running:
             words = f"{name} has what it must have; its session is opened anew, and what it hasn't answered of {self.round_words()} is sent again"
             self.record.remark_seldom(name + " again", words)
-            say(words)
+            progress(words)
 
     def awaited(self):
         """The switches for which the update waits: they are away, or owe an answer."""

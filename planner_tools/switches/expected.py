@@ -105,10 +105,11 @@ def repair_plan(found):
 
 
 class Answers:
-    """What a switch answers to the questions for its table: messages of statistics, of both kinds where it has both."""
+    """What a switch answers to the questions for its table on one connection: messages of statistics, of both kinds where it has both."""
 
-    def __init__(self, base=0):
+    def __init__(self, base=0, connection=None):
         self.base = base             # what the xids of the questions are counted from
+        self.connection = connection     # where it was asked
         self.flow, self.extended, self.is_whole = [], [], False
 
     def marks(self):

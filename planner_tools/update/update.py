@@ -1,28 +1,33 @@
 """`planner update`: from the tables that the switches have to those that are wanted, by one command.
 
-    planner update DIR --switches FILE [--listen HOST:PORT] [--wait SECONDS | --ask] [--patience SECONDS] [--yes | --dry-run]
+    planner update DIR --switches FILE [--listen HOST:PORT] [--wait SECONDS | --ask] [--patience SECONDS] [--yes | --dry-run] [--strict] [--quiet]
 
 DIR has topology.json, new.json and policy.json. The steps are those that can be taken one by one as well: collect, import, plan, check, apply. What they make is
-kept in a new folder in DIR, `update-1` and so on: `replies`, `old.json`, `plan.json`, and `record`, the record of the update. At the end stand the commands
-that go on with it, or turn it back to the tables that the switches had.
+kept in a new folder in DIR, `update-1` and so on: `replies`, `old.json`, `plan.json`, copies of the three files, and `record`, the record of the update. At the
+end stand the commands that go on with it, or turn it back to the tables that the switches had. Where no table could be read there is no folder.
 
-Before the first change a summary is printed, and it is asked whether the plan may be carried out; --yes answers so, and --dry-run ends there.
+What there is to warn of in the three files is said first; --strict ends it there. Before the first change the entries that are changed are shown round by
+round, as `planner show` does, and it is asked whether the plan may be carried out; --yes answers so, and --dry-run ends there. With --quiet nothing is said
+but refusals and the question.
 
 Exit status: 0 done, or nothing was to be done, or it was a dry run; 2 wrong words; otherwise that of the step that stopped it, which is named: 1 refused or not
-wanted, 3 a bad file, 4 too few tags, 5 too small a table, 6 and 7 a file can't be read or written.
+wanted, 3 a bad file, or warnings with --strict, 4 too few tags, 5 too small a table, 6 and 7 a file can't be read or written.
 """
 import argparse
-import contextlib
-import io
 import json
 import os
 import shlex
+import shutil
 import sys
 
-from planner_tools import program
-from planner_tools.switches import apply, collect
-from planner_tools.switches.connections import host_and_port
+from planner_tools import network as nets
+from planner_tools import program, show
+from planner_tools.files import read_json
+from planner_tools.proved import How, answer_for, look, say_why
+from planner_tools.switches import apply, collect, connections, ends
+from planner_tools.switches.connections import host_and_port, progress, say
 from planner_tools.update.summary import summary
+from planner_tools.voice import TELLING
 
 WANTED = ("topology", "new", "policy")
 STEPS = ("collect", "import", "plan", "check", "apply")
@@ -51,13 +56,10 @@ class Stopped(Exception):
         return f"stopped at {where}: {self.what}. Nothing was sent" + (f". Next: {self.then}" if self.then else "")
 
 
-def say(words):
-    print(words, file=sys.stderr, flush=True)
-
-
 class Update:
     def __init__(self, options):
         self.options = options
+        self.how = How(options.quiet, options.strict)
         self.files = {name: os.path.join(options.folder, f"{name}.json") for name in WANTED}
         self.made = None
 
@@ -67,18 +69,20 @@ class Update:
     def run(self):
         """Does all steps, and returns the exit status."""
         self.look()
+        self.warn()
+        replies = self.collect()
         self.make_folder()
-        self.collect()
+        self.write("replies", replies)
         self.write("old.json", self.of_program("import", "import", self.files["topology"], self.path("replies")))
         plan = self.plan()
         if not plan["rounds"]:
-            say(f"the switches have the tables of {self.files['new']} already: nothing is to be done")
+            progress(f"the switches have the tables of {self.files['new']} already: nothing is to be done")
             return 0
-        for line in summary(plan, self.switches, None if self.options.ask else self.options.wait):
-            say(line)
+        self.keep_files()
+        self.show(plan)
         if self.options.dry_run:
-            say(f"a dry run ends here: nothing was sent. The plan is {self.path('plan.json')}")
-            say(f"it is carried out by: {shlex.join(self.apply_words())}")
+            progress(f"a dry run ends here: nothing was sent. The plan is {self.path('plan.json')}")
+            progress(f"it is carried out by: {shlex.join(self.apply_words())}")
             return 0
         self.ask()
         return self.apply()
@@ -95,7 +99,14 @@ class Update:
             with open(self.files["topology"], encoding="utf-8") as file:
                 self.switches = len(json.load(file)["switches"])
         except (ValueError, KeyError, TypeError, RecursionError) as fault:
+            say_why("config", self.files["topology"], self.files["new"], self.files["policy"])
             raise Stopped("the files", f"{self.files['topology']} is no topology", "docs/FORMATS.md has the members of one", BAD_FILE) from fault
+
+    def warn(self):
+        """Says what there is to warn of in the files. The runs behind that say no warning."""
+        if look(self.how, "config", self.files["topology"], self.files["new"], self.files["policy"]):
+            raise Stopped("the files", "there are warnings, and --strict is given", "correct what they name, or leave out --strict", BAD_FILE)
+        self.how = self.how.behind_warnings()
 
     def make_folder(self):
         """Makes a new folder for this update."""
@@ -122,18 +133,20 @@ class Update:
         return words + (["--listen", self.options.listen] if self.options.listen else [])
 
     def collect(self):
-        say(f"step 1: the tables of {self.switches} switches are read")
-        text = io.StringIO()
-        patience = ["--patience", f"{self.options.patience:g}"]
-        with contextlib.redirect_stdout(text):
-            status = collect.main([self.files["topology"], *self.connection_words(), *patience])
-        if status != 0:
-            raise Stopped("collect", "the lines above say why", "", status)
-        self.write("replies", text.getvalue())
+        """What the switches answer for their tables."""
+        progress(f"step 1: the tables of {self.switches} switches are read")
+        asked = argparse.Namespace(topology=self.files["topology"], switches=self.options.switches, patience=self.options.patience,
+                                   listen=host_and_port(self.options.listen) if self.options.listen else None)
+        try:
+            return collect.read(asked).replies()
+        except (connections.Stop, OSError) as stop:
+            say(f"stopped: {stop}. Next: {getattr(stop, 'then', 'see to it, and ask again')}")
+            raise Stopped("collect", "the lines above say why", "") from stop
 
     def of_program(self, step, command, *words):
         """What a command of the program writes, where it ends with 0."""
-        status, text = program.run(command, *words)
+        status, text = answer_for(self.how, command, *words)
+        self.see_that_it_is_heard()
         if status == 0:
             return text
         then = NEXT.get((step, status), "docs/FORMATS.md has every refusal")
@@ -145,31 +158,57 @@ class Update:
         files = [self.files["topology"], self.path("old.json"), self.files["new"], self.files["policy"]]
         text = self.of_program("plan", PLANNERS[0], *files)
         self.write("plan.json", text)
-        say(self.of_program("check", "check", *files, self.path("plan.json")).strip())
+        progress(self.of_program("check", "check", *files, self.path("plan.json")).strip())
         return json.loads(text)
 
+    def keep_files(self):
+        """Keeps the files of the update with it: its record is taken up with these, whatever becomes of the others."""
+        for name, path in self.files.items():
+            try:
+                shutil.copyfile(path, self.path(f"{name}.json"))
+            except OSError as fault:
+                raise Stopped("the files", f"{self.path(name)}.json can't be written: {fault.strerror}", "make room, and begin again", UNWRITABLE) from fault
+
+    def show(self, plan):
+        """Shows what the plan does: in a summary, and entry by entry where somebody is asked or only looks."""
+        tell = progress if self.options.yes or self.options.dry_run else say
+        for line in [*([] if self.options.yes else self.entries(plan)), *summary(plan, self.switches, None if self.options.ask else self.options.wait)]:
+            tell(line)
+
+    def entries(self, plan):
+        """The lines of `show` for a plan."""
+        network, rules = nets.Network(read_json(self.files["topology"])), nets.plain(read_json(self.path("old.json")).root)["rules"]
+        lines = show.plan_lines(self.path("plan.json"), show.plan_values(plan, rules, network, self.options.wait), network, rules)
+        return [line for line in lines if not (self.options.ask and line.startswith("time: "))] + [""]
+
+    def see_that_it_is_heard(self):
+        if TELLING.fault is not None:
+            raise Stopped("the question", "the error stream is closed, and nobody hears what happens", "do it where its lines are read")
+
     def ask(self):
+        self.see_that_it_is_heard()
         if self.options.yes:
             return
         if sys.stdin is None or not sys.stdin.isatty():
             raise Stopped("the question", "there is no terminal to ask", "answer it with --yes, or look first with --dry-run")
-        print("Carry it out? [y/N] ", end="", file=sys.stderr, flush=True)
+        say("Carry it out? [y/N] ", end="")
+        self.see_that_it_is_heard()
         if sys.stdin.readline().strip().lower() not in ("y", "yes"):
             raise Stopped("the question", "it isn't wanted", f"the plan stays in {self.path('plan.json')}")
 
     def apply_words(self):
-        words = ["planner", "apply", self.files["topology"], self.path("old.json"), self.files["new"], self.files["policy"], self.path("plan.json"), self.path("record")]
+        words = ["planner", "apply", *(self.path(f"{name}.json") for name in ("topology", "old", "new", "policy", "plan")), self.path("record")]
         wait = ["--ask"] if self.options.ask else ["--wait", f"{self.options.wait:g}"]
         return [*words, *self.connection_words(), *wait, "--patience", f"{self.options.patience:g}"]
 
     def apply(self):
         """Carries the plan out. What stands in the way is said by `apply` itself; behind it come the lines to go on with and to turn back with."""
         words = self.apply_words()
-        status = apply.main(words[2:])
+        status = apply.main(words[2:], self.how)
         record = self.path("record")
         if status == 0:
-            say(f"the record is {record}; `planner serve` prints from it what was sent")
-            say(f"this turns the update back: {shlex.join([*words, '--back'])}")
+            progress(f"the record is {record}; `planner serve` prints from it what was sent")
+            progress(f"this turns the update back: {shlex.join([*words, '--back'])}")
         elif os.path.exists(record):
             say(f"this turns the update back: {shlex.join([*words, '--back'])}")
             say(f"where the line above says to go on with --resume, this does it: {shlex.join([*words, '--resume'])}")
@@ -188,7 +227,11 @@ def main(words):
     parser.add_argument("--patience", metavar="SECONDS", type=float, default=60.0)
     parser.add_argument("--yes", action="store_true")
     parser.add_argument("--dry-run", action="store_true")
+    parser.add_argument("--strict", action="store_true")
+    parser.add_argument("--quiet", action="store_true")
     options = parser.parse_args(words)
+    TELLING.is_quiet = options.quiet
+    ends.heed_signals()
     if options.listen is not None:
         try:
             host_and_port(options.listen)
@@ -203,6 +246,6 @@ def main(words):
     except program.NoProgram as fault:
         say(f"stopped: {fault}. Nothing was sent")
         return program.NO_PROGRAM
-    except KeyboardInterrupt:
-        say("stopped: the operator ended it. Nothing was sent")
+    except KeyboardInterrupt as why:
+        say(f"stopped: {ends.interrupt_words(why)}. Nothing was sent")
         return REFUSED

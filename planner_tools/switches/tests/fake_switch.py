@@ -13,6 +13,7 @@ from planner_tools.switches import openflow
 DELETE_STRICT = 4
 TAG_PRIORITY = 1 << 20      # the bit of `wildcards`
 MARK_TYPE = 0x88B5          # the type of the packets of a mark
+NAMED = 0x4E414D45          # the xid of the echo request behind its features: where that is answered, the controller knows which switch it is
 
 
 def match_of(rule):
@@ -87,7 +88,8 @@ class FakeSwitch(threading.Thread):
         self.extended = None        # entries of its extended statistics, where it has such
         self.own_messages = self.flow_messages = self.barriers = self.connections = self.echoes = 0
         self.received = b""
-        self.ended = threading.Event()
+        self.counts_names, self.names = False, 0       # whether it counts how often a controller has learned which switch it is
+        self.ended, self.lost = threading.Event(), threading.Event()
         self.server = socket.create_server(address) if listen else None
         if listen:
             self.address = self.server.getsockname()
@@ -113,6 +115,10 @@ class FakeSwitch(threading.Thread):
             except OSError:
                 pass
 
+    def lose(self):
+        """Loses its table, closes its connection, and comes back."""
+        self.lost.set()
+
     def stop(self):
         self.ended.set()
         self.join(5)
@@ -132,6 +138,10 @@ class FakeSwitch(threading.Thread):
         self.send(sock, self.hello + (self.greeting if self.connections > 1 else b""))
         rest, due, owed = b"", time.monotonic() + (self.echo or 1e9), 0
         while not self.ended.is_set():
+            if self.lost.is_set():
+                self.table.clear()
+                self.lost.clear()
+                return
             if time.monotonic() > due:
                 if owed == 3:
                     return
@@ -146,7 +156,9 @@ class FakeSwitch(threading.Thread):
             self.received += data
             pieces, rest = openflow.cut(rest + data)
             for piece in pieces:
-                if openflow.type_of(piece) == openflow.ECHO_REPLY:
+                if openflow.type_of(piece) == openflow.ECHO_REPLY and openflow.xid_of(piece) == NAMED:
+                    self.names += 1
+                elif openflow.type_of(piece) == openflow.ECHO_REPLY:
                     owed, self.echoes = 0, self.echoes + 1
                 elif not self.answer(sock, piece):
                     return
@@ -156,6 +168,8 @@ class FakeSwitch(threading.Thread):
         kind, xid = openflow.type_of(piece), openflow.xid_of(piece)
         if kind == openflow.FEATURES_REQUEST:
             self.send(sock, openflow.message(openflow.FEATURES_REPLY, xid, struct.pack("!QIB3xII", self.datapath, 0, 1, 0, 0xFFF)))
+            if self.counts_names:
+                self.send(sock, openflow.message(openflow.ECHO_REQUEST, NAMED))
         elif kind == openflow.FLOW_MOD and xid >= 0xFEA70000:
             self.own_messages += 1
             if self.refuses:

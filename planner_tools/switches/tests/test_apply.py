@@ -189,6 +189,22 @@ class Applying(UpdateTest):
         self.assertEqual(sum(one.connections for one in net.switches.values()), 0)
         self.assertFalse(net.record.exists())
 
+    def test_what_check_warns_of_is_warned_of_before_the_switches_are_reached(self):
+        net = Network(self, "square")
+        net.files[3] = net.folder / "policy.json"
+        net.files[3].write_text('{"demands": [{"from": "s1:1", "dst": "10.0.0.0/24", "thru": ["s4"]}]}')
+        net.files[4] = net.folder / "plan.json"
+        net.files[4].write_text(planner("plan", *net.files[:4]))
+        status, said = net.apply("--strict")
+        self.assertEqual(status, 3, said)
+        self.assertIn(f"planner: warning: {net.files[3]}, line 1, column ", said)
+        self.assertRegex(said.splitlines()[-1], "^stopped: there are warnings, and --strict is given; nothing was sent. Next: correct what they name")
+        self.assertEqual((sum(one.connections for one in net.switches.values()), net.record.exists()), (0, False))
+        status, said = net.apply()
+        self.assertEqual((status, said.count("thru counts for nothing")), (0, 1), said)
+        self.assertEqual(net.apply("--back", "--quiet"), (0, ""))
+        self.stops(net.apply("--quiet"), "is there already", "--resume")
+
     def test_hostile_bytes_of_a_switch_end_its_session(self):
         noises = [("Version", bytes.fromhex("0403000800000000")), ("Length", bytes.fromhex("0103000400000000")), ("Xid 77", bytes.fromhex("011300080000004d")),
                   ("Version", b"GET / HTTP/1.1\r\n\r\n")]

@@ -104,6 +104,67 @@ class Updating(unittest.TestCase):
         self.assertTrue(net.has(net.wanted / "new.json"))
         self.assertTrue((net.wanted / "update-5" / "record").exists())
 
+    def test_the_question_shows_what_show_shows(self):
+        net = self.network("detour")
+        said = self.answering(net, "n")[1]
+        shown = subprocess.run([sys.executable, str(FRONT_END), "show", *(str(net.wanted / name) for name in ("topology.json", "update-1/old.json", "update-1/plan.json")),
+                                "--wait", "0.05"], capture_output=True, text=True, timeout=LONGEST, check=True, env={**os.environ, "PLANNER": PLANNER}).stdout
+        self.assertIn("\nround 8: ", shown)
+        self.assertIn(shown, said)
+        self.assertLess(said.index(shown), said.index("Carry it out? [y/N]"))
+        self.assertIn(shown, self.run_it(net, "--dry-run")[1].replace("update-2", "update-1"))
+        said = self.run_it(net, "--yes")[1]
+        self.assertNotIn("\nround 8: ", said)
+        self.assertIn("The plan has 8 rounds with", said)
+
+    # ---- warnings and sentences
+
+    def misspell(self, net):
+        demands = json.loads((net.wanted / "policy.json").read_text())["demands"]
+        self.change(net, "policy", demands=[{"thru" if word == "through" else word: it for word, it in one.items()} for one in demands])
+
+    def test_what_the_commands_warn_of_is_warned_of_before_the_question(self):
+        net = self.network("detour")
+        self.misspell(net)
+        said = self.answering(net, "n")[1]
+        warning = f"planner: warning: {net.wanted}/policy.json, line 1, column "
+        self.assertIn(warning, said)
+        self.assertIn("thru counts for nothing: no member has this name; did you mean `through`?", said)
+        self.assertLess(said.index(warning), said.index("step 1: "))
+        checked = subprocess.run([sys.executable, str(FRONT_END), "check", *(str(net.wanted / f"{name}.json") for name in ("topology", "update-1/old", "new", "policy", "update-1/plan"))],
+                                 capture_output=True, text=True, timeout=LONGEST, check=True, env={**os.environ, "PLANNER": PLANNER}).stderr
+        warnings = [line for line in checked.splitlines() if line.startswith("planner: warning: ")]
+        self.assertTrue(warnings)
+        self.assertEqual([line for line in said.splitlines() if line.startswith("planner: warning: ")], warnings)       # each of them, and once
+
+    def test_strict_ends_it_at_a_warning_and_quiet_says_none(self):
+        net = self.network()
+        self.misspell(net)
+        self.change(net, "policy", demands=[{"from": "s1:1", "dst": "10.0.0.0/24", "thru": ["s4"]}])
+        for words in (("--yes", "--strict"), ("--yes", "--strict", "--quiet")):
+            run = self.run_it(net, *words)
+            self.assertIn("thru counts for nothing", run[1])
+            self.stops(net, run, 3, "the files", "there are warnings, and --strict is given", "leave out --strict")
+            self.assertEqual(sorted(os.listdir(net.wanted)), ["new.json", "policy.json", "topology.json"])
+        self.assertEqual(self.run_it(net, "--yes", "--quiet"), (0, ""))
+        self.assertTrue(net.has(net.wanted / "new.json"))
+
+    def test_a_refusal_is_said_with_file_line_and_column(self):
+        net = self.network()
+        (net.wanted / "new.json").write_text('{"rules": [\n  {"switch": "s1", "priority": 0, "dst": "10.0.0.0/24", "out": 2}]}')
+        run = self.run_it(net, "--yes")
+        self.assertIn(f"planner: {net.wanted}/new.json, line 2, column 32: rules[0].priority is 0: ", run[1])
+        self.stops(net, run, 3, "step 3 of 5, plan", "bad new", "correct that file")
+        (net.wanted / "topology.json").write_text("{]")
+        run = self.run_it(net, "--yes")
+        self.assertIn(f"planner: {net.wanted}/topology.json, line 1, column 2: ", run[1])
+        self.stops(net, run, 3, "the files", "is no topology")
+
+    def test_a_run_that_fails_at_its_first_step_leaves_no_folder(self):
+        net = self.network(only={"s3": {"late": 60.0}})
+        self.stops(net, self.run_it(net, "--yes", "--patience", "0.5"), 1, "step 1 of 5, collect", "the lines above say why")
+        self.assertEqual(sorted(os.listdir(net.wanted)), ["new.json", "policy.json", "topology.json"])
+
     def test_files_that_are_not_there(self):
         net = self.network()
         (net.wanted / "policy.json").unlink()
@@ -118,6 +179,7 @@ class Updating(unittest.TestCase):
         net.switches["s1"].entries = [entry(priority=32768)]
         status, said = run = self.run_it(net, "--yes")
         self.assertIn("s1: priority 32768 type 0800 10.0.0.0/24 -> output 2: its priority isn't 1 to 16383", said)
+        self.assertFalse((net.wanted / "update-1").exists())
         self.stops(net, run, status, "step 1 of 5, collect", "the lines above say why")
         self.assertEqual(status, 1)
 
