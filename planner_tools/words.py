@@ -139,6 +139,16 @@ FRONT = [
             "Shows FILE in words: of a plan round by round the switch, the entry, and from which neighbour to which; of a configuration the rules of each switch; "
             "of a schedule its events. OLD says what was there before, and a schedule is shown whole behind OLD and PLAN. `--wait SECONDS` is the wait before each "
             "round, for the time that a plan takes; `--json` writes it for machines.", False),
+    Command("diff", "TOPO OLD NEW [POLICY]",
+            "what the new rules change for whom: which classes of packets go another way, arrive no more, or arrive now and didn't, and the rules that do that",
+            "Compares the paths of every class of packets under both configurations, and counts those that go another way, arrive no more, arrive now and didn't, or "
+            "leave at another host port. It tells them by host ports, VLANs and prefixes, put together where they say the same, with both paths and the rules that make "
+            "the difference; with POLICY also what of it breaks a demand. `--json` writes it for machines.", False),
+    Command("links", "TOPO CONFIG [--empty LINK]",
+            "how many classes of packets use each link and each switch, and for which prefixes; with `--empty` whether nothing uses a link or a switch",
+            "Says of each link, in both directions, and of each switch how many classes of packets use it, and for which prefixes. With `--empty`, which may stand several "
+            "times, it says of these links or switches alone whether they are empty, and the exit status is 1 where one isn't. A link is named by one of its ends, as "
+            "`s1:2`, or by its switches, as `s1-s2`. `--json` writes it for machines.", False),
     Command("page", "TOPO OLD NEW POLICY PLAN",
             "one HTML file that shows what a plan does, round by round; `planner page TOPO CONFIG [POLICY]` shows where packets go under a configuration",
             "Writes a page for the browser: of each round the changes, and the steps that packets may take; of a plan that is refused the walks that go wrong, "
@@ -174,6 +184,7 @@ WISHES = [
     ("whether a plan is safe, whoever made it", ["check"]),
     ("evidence for rounds of my own", ["certify"]),
     ("what goes wrong under a plan that isn't", ["explain"]),
+    ("what new rules change for whom, and what uses a link", ["diff", "links"]),
     ("a plan, rules or a run in words, or in the browser", ["show", "page"]),
     ("to try a plan: a run of it, where its packets went, and the tables then", ["simulate", "replay", "tables"]),
     ("to change the switches", ["update", "collect", "apply"]),
