@@ -9,8 +9,8 @@ from planner_tools import network as nets
 
 ENDS = ("left", "dropped", "again")
 LAST = (1 << 32) - 1
-# A range of addresses that is made of more prefixes than this is told by its first and its last address.
-FEW = 4
+# A range of addresses that is made of more prefixes than this, or of greater ones, is told by its first and its last address.
+FEW, GREATEST = 3, 8
 
 
 def number_of(address):
@@ -152,7 +152,8 @@ def range_words(some):
     found = []
     for first, last in some:
         mine = blocks(first, last)
-        found += [prefix_text(*block) for block in mine] if len(mine) <= FEW else [f"{nets.address(first)} to {nets.address(last)}"]
+        is_told = len(mine) == 1 or len(mine) <= FEW and min(length for _, length in mine) >= GREATEST
+        found += [prefix_text(*block) for block in mine] if is_told else [f"{nets.address(first)} to {nets.address(last)}"]
     return found
 
 

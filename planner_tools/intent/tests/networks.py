@@ -1,5 +1,7 @@
 """Networks that are made by chance, a walk of all their classes that uses nothing of what is tested, and runs of the front end. PLANNER names the program."""
+import contextlib
 import functools
+import io
 import json
 import os
 import pathlib
@@ -11,7 +13,7 @@ import tempfile
 ROOT = pathlib.Path(__file__).resolve().parents[3]
 sys.path.insert(0, str(ROOT))
 
-from planner_tools import program  # noqa: E402
+from planner_tools import main, program  # noqa: E402
 
 EXAMPLES = ROOT / "examples"
 LONGEST = 120
@@ -25,6 +27,14 @@ def planner(*words, given=None):
     done = subprocess.run([sys.executable, "-B", ROOT / "planner", *map(str, words)], capture_output=True, text=True, input=given, timeout=LONGEST, check=False,
                           env={**os.environ, "PLANNER": program.path(), "PLANNER_TOOLS_TEST": "1"})
     return done.returncode, done.stdout, done.stderr
+
+
+def front(*words):
+    """The same without a process of its own, as many runs go faster so."""
+    wrote, said = io.StringIO(), io.StringIO()
+    with contextlib.redirect_stdout(wrote), contextlib.redirect_stderr(said):
+        status = main.main(list(map(str, words)))
+    return status, wrote.getvalue(), said.getvalue()
 
 
 def asked(*words):

@@ -2,7 +2,7 @@
 import json
 import unittest
 
-from networks import EXAMPLES, Folder, all_walks, asked, changed, covering, firsts, planner, some, span, wild
+from networks import EXAMPLES, Folder, all_walks, asked, changed, covering, firsts, front, planner, some, span, wild
 
 SEEDS = range(25)
 
@@ -37,7 +37,7 @@ class Classes(unittest.TestCase):
         new = changed(chance, net, old)
         given = {"topology": net, "old": old, "new": new, **({"policy": policy} if policy is not None else {})}
         folder = Folder(self, **given)
-        status, text, said = planner("diff", folder.path, "--json")
+        status, text, said = front("diff", folder.path, "--json")
         self.assertEqual((status, said), (0, ""))
         found, starts = json.loads(text), firsts(*list(given.values())[1:])
         walks = [all_walks(net, config, starts) for config in (old, new)]
@@ -104,7 +104,7 @@ class Classes(unittest.TestCase):
         for name in ("square", "leaf-spine", "detour"):
             status, text, _ = planner("check", EXAMPLES / name)
             self.assertEqual(status, 0)
-            found = json.loads(planner("diff", EXAMPLES / name, "--json")[1])
+            found = json.loads(front("diff", EXAMPLES / name, "--json")[1])
             self.assertEqual(text.split(" ")[-2], str(found["classes"]))
 
     def test_the_rules_are_those_of_trace(self):
@@ -112,7 +112,7 @@ class Classes(unittest.TestCase):
         chance, net = some(7, switches=7)
         old = wild(chance, net)
         folder = Folder(self, topology=net, old=old, new=changed(chance, net, old))
-        for one in json.loads(planner("diff", folder.path, "--json")[1])["changes"]:
+        for one in json.loads(front("diff", folder.path, "--json")[1])["changes"]:
             host, vlan, address = one["from"][0], one["vlans"][0], one["prefixes"][0].partition("/")[0]
             lines = {word: asked("trace", folder / "topology.json", folder / f"{word}.json", host, vlan, address)[1].splitlines() for word in ("old", "new")}
             for rule in one["rules"]:

@@ -2,7 +2,7 @@
 import json
 import unittest
 
-from networks import EXAMPLES, Folder, all_walks, ends_of, firsts, planner, some, span, wild
+from networks import EXAMPLES, Folder, all_walks, ends_of, firsts, front, planner, some, span, wild
 
 SEEDS = range(20)
 
@@ -36,7 +36,7 @@ class Loads(unittest.TestCase):
         config = wild(chance, net)
         folder, starts = Folder(self, topology=net, old=config), firsts(config)
         links, switches = used(net, all_walks(net, config, starts))
-        status, text, said = planner("links", folder.path, "--json")
+        status, text, said = front("links", folder.path, "--json")
         self.assertEqual((status, said), (0, ""))
         found = json.loads(text)
         self.assertEqual(found["classes"], len(net["hosts"]) * len(net["vlans"]) * len(starts))
@@ -61,11 +61,11 @@ class Loads(unittest.TestCase):
         for link in net["links"]:
             is_empty = not any(end in links for end in link)
             for word in link:
-                status, text, _ = planner("links", folder.path, "--empty", word)
+                status, text, _ = front("links", folder.path, "--empty", word)
                 self.assertEqual((status, text.startswith("empty: ")), (0, True) if is_empty else (1, False))
                 answers.add(status)
         for one in net["switches"]:
-            status, _, _ = planner("links", folder.path, "--empty", one["name"])
+            status, _, _ = front("links", folder.path, "--empty", one["name"])
             self.assertEqual(status, 1 if one["name"] in switches else 0)
         self.assertEqual(answers, {0, 1})
 
@@ -98,8 +98,8 @@ class Words(unittest.TestCase):
         net = {"switches": [{"name": name, "capacity": 9} for name in ("a", "b-c", "a-b", "c")], "links": [["a:1", "b-c:1"], ["a-b:1", "c:1"], ["a:2", "c:2"]], "hosts": [],
                "vlans": ["untagged"], "tags": []}
         folder = Folder(self, topology=net, old={"rules": []})
-        self.assertEqual(planner("links", folder.path, "--empty", "a-c")[:2], (0, "empty: a:2 - c:2\n"))
-        status, text, said = planner("links", folder.path, "--empty", "a-b-c")
+        self.assertEqual(front("links", folder.path, "--empty", "a-c")[:2], (0, "empty: a:2 - c:2\n"))
+        status, text, said = front("links", folder.path, "--empty", "a-b-c")
         self.assertEqual((status, text), (2, ""))
         self.assertIn("name one of their ends: a:1, b-c:1, a-b:1, c:1", said)
 
