@@ -15,12 +15,14 @@ MODULES = {
     "install": "planner_tools.install.install",
     "links": "planner_tools.intent.links",
     "page": "planner_tools.page.page",
+    "policy": "planner_tools.intent.policy",
+    "route": "planner_tools.intent.route",
     "to-ofctl": "planner_tools.convert.to_ofctl",
     "update": "planner_tools.update.update",
     "show": "planner_tools.show",
 }
 # Those of them whose answer `-o FILE` takes.
-WITH_OUTPUT = ("collect", "diff", "from-graphml", "from-mininet", "from-ofctl", "links", "page", "show")
+WITH_OUTPUT = ("collect", "diff", "from-graphml", "from-mininet", "from-ofctl", "links", "page", "policy", "route", "show")
 # Those of them in which a folder stands for names.
 UNFOLDING = ("apply", "collect", "page")
 WRONG_WORDS, UNWRITTEN, INTERRUPTED = 2, 7, 130

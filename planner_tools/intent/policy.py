@@ -205,6 +205,14 @@ def refuse_too_many(demands, only_changed):
                    ["Next: give fewer switches with --through" + ("" if only_changed else ", or ask with --changed for the classes alone whose paths differ")])
 
 
+def good_paths(topology, config):
+    """The paths of a configuration under which no packet comes to a switch twice. Where one does, `config` says which."""
+    text = asked("paths", (0, 1), TOPO=topology, CONFIG=config)
+    if not text.endswith(" 0 break\n"):
+        asked("config", TOPO=topology, CONFIG=config)
+    return Paths(text)
+
+
 def judged(files, text):
     """Sees that both configurations keep the policy."""
     with tempfile.NamedTemporaryFile("w", prefix="planner-", suffix=".json", encoding="utf-8") as file:
@@ -226,10 +234,8 @@ def parser_of():
 def work(words):
     given = parser_of().parse_intermixed_args(words)
     files = files_of("policy", given.files)
-    for word in ("OLD", "NEW"):
-        asked("config", TOPO=files["TOPO"], CONFIG=files[word])
+    both = Beside(*(good_paths(files["TOPO"], files[word]) for word in ("OLD", "NEW")))
     through = named_switches(given.through, network_of(files["TOPO"]))
-    both = Beside(*(Paths(asked("paths", TOPO=files["TOPO"], CONFIG=files[word])) for word in ("OLD", "NEW")))
     wanted = Wanted(both, through, given.changed)
     demands = demands_of(wanted)
     refuse_too_many(demands, given.changed)
