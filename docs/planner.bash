@@ -12,6 +12,10 @@ _planner() {
         case ${COMP_WORDS[1]} in
             collect) options="--switches --listen --patience $options" ;;
             apply) options="--switches --listen --wait --ask --patience --resume --back --repair --take-over --no-mark $options" ;;
+            diff) options="--json $options" ;;
+            links) options="--empty --json $options" ;;
+            policy) options="--through --changed $options" ;;
+            route) options="--drain --weights --from $options" ;;
             update) options="--switches --listen --wait --ask --patience --yes --dry-run $options" ;;
         esac
         mapfile -t COMPREPLY < <(compgen -W "$options" -- "${COMP_WORDS[COMP_CWORD]}")

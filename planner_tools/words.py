@@ -138,7 +138,7 @@ FRONT = [
     Command("show", "TOPO [OLD] [PLAN] FILE",
             "a plan, a configuration or a schedule in words: of a plan round by round what is changed, from where to where, and the time that it takes",
             "Shows FILE in words: of a plan round by round the switch, the entry, and from which neighbour to which; of a configuration the rules of each switch; "
-            "of a schedule its events. OLD says what was there before, and a schedule is shown whole behind OLD and PLAN. `--wait SECONDS` is the wait before each "
+            "of a schedule its events; of two configurations which entries differ. OLD says what was there before, and a schedule is shown whole behind OLD and PLAN. `--wait SECONDS` is the wait before each "
             "round, for the time that a plan takes; `--json` writes it for machines.", False),
     Command("diff", "TOPO OLD NEW [POLICY]",
             "what the new rules change for whom: which classes of packets go another way, arrive no more, or arrive now and didn't, and the rules that do that",
@@ -176,7 +176,8 @@ FRONT = [
     Command("from-graphml", "FILE --hosts NAME,.. --vlans VLAN,.. --tags FIRST-LAST --capacity N",
             "a topology made of a graph of the Internet Topology Zoo, and of what a graph lacks",
             "Makes a topology of a graph in GraphML, as the Internet Topology Zoo has them. Ports are numbered in the order of the edges; which switches have a "
-            "host port, which VLANs and tags there are, and how many rules a switch can hold, is asked for.", False),
+            "host port, which VLANs and tags there are, and how many rules a switch can hold, is asked for. `--distances FILE` and `--speeds FILE` write what the graph "
+            "says of its links as weights for `route`.", False),
     Command("to-ofctl", "PLAN [FOLDER]",
             "the rounds of a plan as commands of `ovs-ofctl`, a script for each round",
             "Writes a script of strict commands of `ovs-ofctl` for each round of a plan, for networks without a controller, into FOLDER, and prints their names. Between two "
@@ -214,6 +215,10 @@ OWN_OPTIONS = {
               ("--back", "goes on with it backwards: turns the round that runs, and undoes those that are settled, one by one, up to OLD"),
               ("--repair", "puts right what a switch doesn't have as it must have it, in place of stopping"),
               ("--take-over", "takes away the marks of other updates"), ("--no-mark", "puts no mark on the switches, and doesn't mind those of others")],
+    "diff": [("--json", "writes JSON, for machines")],
+    "links": [("--empty LINK", "asks whether nothing uses this link or switch"), ("--json", "writes JSON, for machines")],
+    "policy": [("--through SWITCH", "a switch that a class has to meet where both of its paths meet it"), ("--changed", "demands for those classes alone whose paths differ")],
+    "route": [("--drain LINK", "a link or a switch that is to be empty"), ("--weights FILE", "the weight of each link"), ("--from CONFIG", "the rules now")],
     "update": [*CONNECTIONS, *CARRYING_OUT, ("--yes", "doesn't ask before the first change"), ("--dry-run", "ends before the first change")],
 }
 # Commands of the program that are newer than some builds of it.

@@ -26,6 +26,8 @@ class Case:
         self.without = [*(end for link in self.links for end in link), *self.switches]
         self.old = routed(self.chance, self.net, self.homes, 0.9)
         self.old["rules"].append({"switch": name_of(self.net["hosts"][0]), "priority": 7, "dst": KEPT, "out": "drop"})
+        switch, _, port = self.net["hosts"][1].rpartition(":")
+        self.blocked = {"switch": switch, "priority": 115, "in_port": int(port), "dst": "10.0.1.7/32", "out": "drop"}
 
     def far(self, dst):
         """How far each switch is from where a prefix leaves, over what isn't drained."""
@@ -77,6 +79,7 @@ class Drafts(unittest.TestCase):
         for seed in SEEDS:
             with self.subTest(seed):
                 case = Case(seed)
+                case.old["rules"] += [case.blocked] if not any(rule["priority"] == 115 for rule in case.old["rules"]) else []
                 new, said, _ = self.draft(case, "--from", "old.json")
                 if new is None:
                     self.assertIn("a second time", said)
