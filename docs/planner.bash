@@ -4,7 +4,7 @@ _planner() {
     local files=0
     COMPREPLY=()
     if [ "$COMP_CWORD" -eq 1 ]; then
-        mapfile -t COMPREPLY < <(compgen -W "config paths trace plan pack check certify explain simulate replay tables upgrade import emit drive serve sample collect apply update show page from-ofctl from-mininet from-graphml to-ofctl install --help --version" -- "${COMP_WORDS[1]}")
+        mapfile -t COMPREPLY < <(compgen -W "config paths trace plan pack check certify explain simulate replay tables upgrade import emit drive serve sample collect apply update show diff links policy route page from-ofctl from-mininet from-graphml to-ofctl install --help --version" -- "${COMP_WORDS[1]}")
         return
     fi
     if [[ ${COMP_WORDS[COMP_CWORD]} == -* ]]; then
@@ -12,6 +12,10 @@ _planner() {
         case ${COMP_WORDS[1]} in
             collect) options="--switches --listen --patience $options" ;;
             apply) options="--switches --listen --wait --ask --patience --resume --back --repair --take-over --no-mark $options" ;;
+            diff) options="--json $options" ;;
+            links) options="--empty --json $options" ;;
+            policy) options="--through --changed $options" ;;
+            route) options="--drain --weights --from $options" ;;
             update) options="--switches --listen --wait --ask --patience --yes --dry-run $options" ;;
         esac
         mapfile -t COMPREPLY < <(compgen -W "$options" -- "${COMP_WORDS[COMP_CWORD]}")
@@ -19,9 +23,9 @@ _planner() {
     fi
     case ${COMP_WORDS[1]} in
         collect | from-ofctl | to-ofctl) files=1 ;;
-        trace | upgrade | import | emit) files=2 ;;
-        config | paths | show) files=3 ;;
-        plan | pack | replay | tables) files=4 ;;
+        trace | upgrade | import | emit | links) files=2 ;;
+        config | paths | show | policy | route) files=3 ;;
+        plan | pack | replay | tables | diff) files=4 ;;
         check | certify | explain | simulate | serve | page) files=5 ;;
         drive | apply) files=6 ;;
     esac

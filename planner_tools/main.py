@@ -8,19 +8,23 @@ from planner_tools import program
 MODULES = {
     "apply": "planner_tools.switches.apply",
     "collect": "planner_tools.switches.collect",
+    "diff": "planner_tools.intent.diff",
     "from-graphml": "planner_tools.convert.from_graphml",
     "from-mininet": "planner_tools.convert.from_mininet",
     "from-ofctl": "planner_tools.convert.from_ofctl",
     "install": "planner_tools.install.install",
+    "links": "planner_tools.intent.links",
     "page": "planner_tools.page.page",
+    "policy": "planner_tools.intent.policy",
+    "route": "planner_tools.intent.route",
     "to-ofctl": "planner_tools.convert.to_ofctl",
     "update": "planner_tools.update.update",
     "show": "planner_tools.show",
 }
-# Those of them whose answer `-o FILE` takes.
-WITH_OUTPUT = ("collect", "from-graphml", "from-mininet", "from-ofctl", "page", "show")
 # Those of them that are quiet or strict themselves.
 WITH_FLAGS = ("apply", "update")
+# Those of them whose answer `-o FILE` takes.
+WITH_OUTPUT = ("collect", "diff", "from-graphml", "from-mininet", "from-ofctl", "links", "page", "policy", "route", "show")
 # Those of them in which a folder stands for names.
 UNFOLDING = ("apply", "collect", "page")
 WRONG_WORDS, UNWRITTEN, INTERRUPTED = 2, 7, 130

@@ -1,4 +1,4 @@
-"""`planner show`: a plan, a configuration or a schedule in words, or as JSON for machines.
+"""`planner show`: a plan, a configuration, what differs between two, or a schedule in words, or as JSON for machines.
 
 What a file holds is what the program reads of it: a plan is read through `upgrade`, a configuration is looked at by `config`, a schedule is carried out
 by `replay`. Where the program refuses one, that is said, and nothing is shown.
@@ -11,10 +11,13 @@ import sys
 from planner_tools import network as nets
 from planner_tools import story
 from planner_tools.files import NotJson, counted, like, read_json
+from planner_tools.intent import entries
 from planner_tools.proved import Stop, joined, say_why
 
 WAIT = 2.0
 BAD_FILE = 3
+# The kind of a configuration behind another one.
+OTHER = "other configuration"
 
 
 def kind_of(path):
@@ -50,11 +53,13 @@ class Shown:
                 raise Stop(f"{name}: No such file or directory{like(name)}", 6)
         for name in names[1:]:
             kind = kind_of(name)
+            if kind == "configuration" and len(names) == 3 and kind in self.files:
+                kind = OTHER
             if kind in ("topology", "policy") or kind in self.files:
                 raise Stop(f"{name}: a {kind} isn't shown" if kind not in self.files else f"{name}: a {kind} stands among the words already", BAD_FILE,
                            ["planner show TOPO [OLD] [PLAN] FILE"])
             self.files[kind] = name
-        self.topology, self.last = names[0], kind_of(names[-1])
+        self.topology, self.last = names[0], OTHER if OTHER in self.files else kind_of(names[-1])
 
     @staticmethod
     def unfolded(names):
@@ -80,9 +85,9 @@ class Shown:
     def network(self):
         return nets.Network(read_json(self.topology))
 
-    def rules(self):
-        """The rules of the configuration, or None where none is given."""
-        name = self.files.get("configuration")
+    def rules(self, kind="configuration"):
+        """The rules of a configuration, or None where none is given."""
+        name = self.files.get(kind)
         if name is None:
             return None
         self.ask("config", self.topology, name)
@@ -188,7 +193,7 @@ def schedule_lines(shown, network):
 def parser_of():
     parser = argparse.ArgumentParser(prog="planner show", description="Shows a plan, a configuration or a schedule in words.")
     parser.add_argument("files", metavar="FILE", nargs="+", help="the topology, or a folder; and behind it the file that is shown: before a plan the old configuration, "
-                        "and before a schedule both, where they are there")
+                        "and before a schedule both, where they are there; of two configurations it is shown what differs")
     parser.add_argument("--json", action="store_true", help="writes JSON, for machines")
     parser.add_argument("--wait", metavar="SECONDS", type=float, default=WAIT, help=f"the wait before each round, for the time that a plan takes ({WAIT:g} s)")
     return parser
@@ -209,6 +214,11 @@ def main(words):
             network = shown.network()
             values = configuration_values(rules, network)
             lines = configuration_lines(name, values, network)
+        elif shown.last == OTHER:
+            rules, others = shown.rules(), shown.rules(OTHER)
+            network = shown.network()
+            values = entries.values_of(rules, others, network)
+            lines = entries.lines_of(shown.files["configuration"], name, values, network)
         else:
             lines = schedule_lines(shown, shown.network())
             values = {"events": lines[2:]}

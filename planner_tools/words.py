@@ -12,11 +12,12 @@ FILES = {
     "PLAN": "rounds of changes, with the evidence by which they can be checked; format 1 or 2",
     "SCHEDULE": "a run, one event a line: rounds start, changes are made, rounds are settled, packets enter, hop and are lost",
     "REPLIES": "what switches answered when they were asked for their flow statistics: the name of a switch and the bytes of one message, a line each",
+    "PREFIXES": "where prefixes leave: a prefix and a host port, a line each, or several host ports, of which the nearest counts",
     "INPUT": "what a controller was given, one line each: `start`, or `feed` with the name of a switch and bytes that it sent; of `apply` also `back` and `reopen`",
 }
 # The name that a file has in a folder that stands in place of names.
 IN_FOLDER = {"TOPO": "topology.json", "CONFIG": "old.json", "OLD": "old.json", "NEW": "new.json", "POLICY": "policy.json", "PLAN": "plan.json",
-             "SCHEDULE": "schedule", "REPLIES": "replies", "INPUT": "update"}
+             "SCHEDULE": "schedule", "REPLIES": "replies", "INPUT": "update", "PREFIXES": "prefixes"}
 
 
 class Command:
@@ -137,8 +138,28 @@ FRONT = [
     Command("show", "TOPO [OLD] [PLAN] FILE",
             "a plan, a configuration or a schedule in words: of a plan round by round what is changed, from where to where, and the time that it takes",
             "Shows FILE in words: of a plan round by round the switch, the entry, and from which neighbour to which; of a configuration the rules of each switch; "
-            "of a schedule its events. OLD says what was there before, and a schedule is shown whole behind OLD and PLAN. `--wait SECONDS` is the wait before each "
+            "of a schedule its events; of two configurations which entries differ. OLD says what was there before, and a schedule is shown whole behind OLD and PLAN. `--wait SECONDS` is the wait before each "
             "round, for the time that a plan takes; `--json` writes it for machines.", False),
+    Command("diff", "TOPO OLD NEW [POLICY]",
+            "what the new rules change for whom: which classes of packets go another way, arrive no more, or arrive now and didn't, and the rules that do that",
+            "Compares the paths of every class of packets under both configurations, and counts those that go another way, arrive no more, arrive now and didn't, or "
+            "leave at another host port. It tells them by host ports, VLANs and prefixes, put together where they say the same, with both paths and the rules that make "
+            "the difference; with POLICY also what of it breaks a demand. `--json` writes it for machines.", False),
+    Command("links", "TOPO CONFIG [--empty LINK]",
+            "how many classes of packets use each link and each switch, and for which prefixes; with `--empty` whether nothing uses a link or a switch",
+            "Says of each link, in both directions, and of each switch how many classes of packets use it, and for which prefixes. With `--empty`, which may stand several "
+            "times, it says of these links or switches alone whether they are empty, and the exit status is 1 where one isn't. A link is named by one of its ends, as "
+            "`s1:2`, or by its switches, as `s1-s2`. `--json` writes it for machines.", False),
+    Command("policy", "TOPO OLD NEW [--through SWITCH]",
+            "a policy made of what both configurations do: what arrives under both must arrive, by the waypoints of `--through` that both paths meet",
+            "Writes a policy that both configurations keep: each class of packets that arrives under both must arrive, and has to meet those of the switches behind "
+            "`--through`, which may stand several times, that both of its paths meet. The demands are put together to few. The classes that stay free are listed on the "
+            "error stream. With `--changed` it speaks of the classes alone whose paths differ.", False),
+    Command("route", "TOPO PREFIXES [--drain LINK] [--weights FILE] [--from CONFIG]",
+            "a first draft of new rules: shortest paths from all hosts to where each prefix leaves, without what is drained, and like CONFIG where it can be",
+            "Writes a configuration in which each prefix is sent on shortest paths from all hosts to the host port where it leaves, without the links and switches behind "
+            "`--drain`, which may stand several times. Of paths of one length those of CONFIG are taken, and its priorities; its rules for other packets stay. The length "
+            "of a path is the number of its links, or the sum of their weights.", False),
     Command("page", "TOPO OLD NEW POLICY PLAN",
             "one HTML file that shows what a plan does, round by round; `planner page TOPO CONFIG [POLICY]` shows where packets go under a configuration",
             "Writes a page for the browser: of each round the changes, and the steps that packets may take; of a plan that is refused the walks that go wrong, "
@@ -155,7 +176,8 @@ FRONT = [
     Command("from-graphml", "FILE --hosts NAME,.. --vlans VLAN,.. --tags FIRST-LAST --capacity N",
             "a topology made of a graph of the Internet Topology Zoo, and of what a graph lacks",
             "Makes a topology of a graph in GraphML, as the Internet Topology Zoo has them. Ports are numbered in the order of the edges; which switches have a "
-            "host port, which VLANs and tags there are, and how many rules a switch can hold, is asked for.", False),
+            "host port, which VLANs and tags there are, and how many rules a switch can hold, is asked for. `--distances FILE` and `--speeds FILE` write what the graph "
+            "says of its links as weights for `route`.", False),
     Command("to-ofctl", "PLAN [FOLDER]",
             "the rounds of a plan as commands of `ovs-ofctl`, a script for each round",
             "Writes a script of strict commands of `ovs-ofctl` for each round of a plan, for networks without a controller, into FOLDER, and prints their names. Between two "
@@ -168,17 +190,17 @@ FRONT = [
 COMMANDS = PROVED + FRONT
 # What people want who run a command, for the table in the README: what it is about, and the commands in the order of that table.
 WISHES = [
-    ("whether each packet has a good path under my rules", ["config"]),
-    ("where each class of packets goes, and by which rules one packet", ["paths", "trace"]),
-    ("a plan from the old rules to the new ones", ["pack", "plan"]),
+    ("whether packets have good paths under my rules", ["config"]),
+    ("where packets go, by which rules, what uses a link, what changes for whom", ["paths", "trace", "links", "diff"]),
+    ("a plan from old rules to new ones", ["pack", "plan"]),
     ("whether a plan is safe, whoever made it", ["check"]),
     ("evidence for rounds of my own", ["certify"]),
     ("what goes wrong under a plan that isn't", ["explain"]),
-    ("a plan, rules or a run in words, or in the browser", ["show", "page"]),
-    ("to try a plan: a run of it, where its packets went, and the tables then", ["simulate", "replay", "tables"]),
+    ("a plan, rules or a run in words or the browser", ["show", "page"]),
+    ("to try a plan: a run, where its packets went, the tables then", ["simulate", "replay", "tables"]),
     ("to change the switches", ["update", "collect", "apply"]),
     ("the bytes, and what a controller sends", ["import", "emit", "drive", "serve"]),
-    ("my files from what I have, and back", ["from-ofctl", "from-mininet", "from-graphml", "to-ofctl"]),
+    ("my files from what I have, drafts of them, and back", ["from-ofctl", "from-mininet", "from-graphml", "policy", "route", "to-ofctl"]),
     ("the rest", ["upgrade", "sample", "install"]),
 ]
 BY_NAME = {command.name: command for command in COMMANDS}
@@ -193,6 +215,10 @@ OWN_OPTIONS = {
               ("--back", "goes on with it backwards: turns the round that runs, and undoes those that are settled, one by one, up to OLD"),
               ("--repair", "puts right what a switch doesn't have as it must have it, in place of stopping"),
               ("--take-over", "takes away the marks of other updates"), ("--no-mark", "puts no mark on the switches, and doesn't mind those of others")],
+    "diff": [("--json", "writes JSON, for machines")],
+    "links": [("--empty LINK", "asks whether nothing uses this link or switch"), ("--json", "writes JSON, for machines")],
+    "policy": [("--through SWITCH", "a switch that a class has to meet where both of its paths meet it"), ("--changed", "demands for those classes alone whose paths differ")],
+    "route": [("--drain LINK", "a link or a switch that is to be empty"), ("--weights FILE", "the weight of each link"), ("--from CONFIG", "the rules now")],
     "update": [*CONNECTIONS, *CARRYING_OUT, ("--yes", "doesn't ask before the first change"), ("--dry-run", "ends before the first change")],
 }
 # Commands of the program that are newer than some builds of it.
@@ -217,7 +243,7 @@ OPTIONS = [
 ]
 SHORT_HANDS = (
     "A folder in place of TOPO stands for the files of it that are left out: topology.json, old.json (also for CONFIG), new.json, policy.json, plan.json, "
-    "schedule, replies and update. `planner plan examples/square` takes the first four of them. The name `-` is the standard input. The error stream has colour "
+    "schedule, replies, update and prefixes. `planner plan examples/square` takes the first four of them. The name `-` is the standard input. The error stream has colour "
     "only on a terminal, and none where the variable NO_COLOR is set. The variable PLANNER names another program than the one of dist/, the built or the installed one.")
 
 STATUSES = [

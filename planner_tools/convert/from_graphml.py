@@ -8,7 +8,8 @@ import re
 import unicodedata
 import xml.etree.ElementTree as xml
 
-from planner_tools.convert.common import NAME, Refused, Topology, capacity, checked, name_list, nearest, read_bytes, run, say, tag_range, vlan_list
+from planner_tools.convert.common import NAME, UNWRITABLE, Refused, Topology, capacity, checked, name_list, nearest, read_bytes, run, say, tag_range, vlan_list
+from planner_tools.convert.weights import distance, speed, weights_text
 
 LONGEST_NAME = 32
 # Switches without a host port, for `--hosts`.
@@ -36,14 +37,20 @@ class Graph:
         for node in children(graph, "node"):
             if node.get("id") is None or node.get("id") in self.nodes:
                 raise Refused(f"{path}: node {node.get('id')!r} has no id, or stands twice")
-            self.nodes[node.get("id")] = {keys.get(data.get("key"), data.get("key")): (data.text or "").strip() for data in children(node, "data")}
+            self.nodes[node.get("id")] = values_of(node, keys)
         self.edges = [(edge.get("source"), edge.get("target")) for edge in children(graph, "edge")]
+        self.edge_values = [values_of(edge, keys) for edge in children(graph, "edge")]
         unknown = [end for edge in self.edges for end in edge if end not in self.nodes]
         if unknown:
             raise Refused(f"{path}: an edge names node {unknown[0]!r}, which isn't there")
 
     def label(self, node):
         return self.nodes[node].get("label") or ""
+
+
+def values_of(element, keys):
+    """What a node or an edge says of itself, by names."""
+    return {keys.get(data.get("key"), data.get("key")): (data.text or "").strip() for data in children(element, "data")}
 
 
 def local(element):
@@ -104,8 +111,8 @@ def topology_of(graph, options):
     for node, name in names.items():
         if node not in outside:
             topology.add_switch(name, options.capacity)
-    hosts = []
-    for one, other in graph.edges:
+    hosts, topology.edge_of = [], []         # for each link the number of its edge
+    for at, (one, other) in enumerate(graph.edges):
         if one in outside and other in outside:
             continue
         if one == other:
@@ -117,6 +124,7 @@ def topology_of(graph, options):
                 topology.take_port(*ends[-1])
         if len(ends) == 2:
             topology.add_link(*ends)
+            topology.edge_of.append(at)
         else:
             hosts += ends
     for node in host_switches(graph, names, options.hosts, [node for node in graph.nodes if node not in outside]):
@@ -125,6 +133,19 @@ def topology_of(graph, options):
     for end in hosts:
         topology.add_host(*end)
     return topology
+
+
+def write_weights(path, measure, graph, topology):
+    """Writes the weights of the links into a file, and tells which links have none."""
+    text, lacking = weights_text(measure, graph, list(zip(topology.links, topology.edge_of)))
+    try:
+        with open(path, "w", encoding="utf-8") as file:
+            file.write(text)
+    except OSError as fault:
+        raise Refused(f"{path}: it can't be written: {fault.strerror}", status=UNWRITABLE) from fault
+    if lacking:
+        say(f"{graph.path}: note: {len(lacking)} of {len(topology.links)} links have no weight in {path}, as the graph doesn't tell it: {', '.join(lacking[:8])}"
+            f"{' and more' if len(lacking) > 8 else ''}")
 
 
 def convert(words):
@@ -137,6 +158,9 @@ def convert(words):
     parser.add_argument("--tags", metavar="FIRST-LAST", type=tag_range, help="VLAN ids that the planner may use as tags, as 3000-3009; `none`")
     parser.add_argument("--capacity", metavar="N", type=capacity, help="how many rules each switch can hold")
     parser.add_argument("--names", choices=("labels", "ids"), default="labels", help="what the switches are named by: labels")
+    parser.add_argument("--distances", metavar="FILE", help="write into FILE how long the links are, as weights for `planner route`: what the edges say, otherwise the way between "
+                        "the coordinates of their nodes")
+    parser.add_argument("--speeds", metavar="FILE", help="write into FILE weights by the speeds of the links: 100 Gbit/s over the speed")
     options = parser.parse_args(words)
     lacking = [word for word, value in (("--hosts", options.hosts or options.external == "hosts"), ("--vlans", options.vlans), ("--tags", options.tags is not None),
                                         ("--capacity", options.capacity)) if not value]
@@ -144,7 +168,13 @@ def convert(words):
         raise Refused(f"a graph doesn't say which hosts, VLANs, tags and capacities there are: {', '.join(lacking)} is wanting",
                       "as --hosts all --vlans untagged --tags 3000-3009 --capacity 1000; `planner from-graphml --help` explains them", 2)
     options.hosts = options.hosts or []
-    return checked(topology_of(Graph(options.file), options), options.file)
+    graph = Graph(options.file)
+    topology = topology_of(graph, options)
+    text = checked(topology, options.file)
+    for path, measure in ((options.distances, distance), (options.speeds, speed)):
+        if path is not None:
+            write_weights(path, measure, graph, topology)
+    return text
 
 
 def main(words):

@@ -1,5 +1,6 @@
 """Tests of `planner from-mininet` and `planner from-graphml`."""
 import json
+import pathlib
 import tempfile
 import unittest
 
@@ -78,6 +79,40 @@ class GraphML(unittest.TestCase):
         self.assertEqual(made["hosts"][:2], ["New_York:3", "Chicago:3"])
         self.assertEqual((made["vlans"], made["tags"]), (["untagged", 10], [3000, 3009]))
         self.assertIn("node 0, 'New York', is the switch New_York", said)
+
+    def weights(self, name, option, *more):
+        """The weights that are written, and what is said."""
+        with tempfile.TemporaryDirectory() as folder:
+            path = pathlib.Path(folder) / "weights"
+            made, said = self.converted(name, *ASKED, option, path, *more)
+            lines = [line.split() for line in path.read_text().splitlines()[1:]]
+            self.assertTrue(all([one, other] in made["links"] for one, other, _ in lines))
+            topology, prefixes = pathlib.Path(folder) / "topology.json", pathlib.Path(folder) / "prefixes"
+            topology.write_text(json.dumps(made))
+            prefixes.write_text(f"10.0.0.0/8 {made['hosts'][0]}\n")
+            self.assertEqual(planner("route", topology, prefixes, "--weights", path)[0], 0)
+            return {(one.partition(":")[0], other.partition(":")[0]): float(weight) for one, other, weight in lines}, said
+
+    def test_distances_by_the_coordinates(self):
+        found, _ = self.weights("backbone", "--distances")
+        self.assertEqual(len(found), 14)
+        self.assertAlmostEqual(found["New_York", "Chicago"], 1144, delta=5)       # as atlases have it, in km
+        self.assertAlmostEqual(found["New_York", "Washington_DC"], 328, delta=5)
+
+    def test_lengths_and_speeds_that_edges_tell(self):
+        text = ('<graphml><key id="a" for="node" attr.name="label"/><key id="b" for="edge" attr.name="LinkSpeedRaw"/><key id="c" for="edge" attr.name="LinkSpeed"/>'
+                '<key id="d" for="edge" attr.name="LinkSpeedUnits"/><key id="e" for="edge" attr.name="distance"/><graph><node id="x"/><node id="y"/><node id="z"/>'
+                '<edge source="x" target="y"><data key="b">10000000000.0</data><data key="e">7.5</data></edge>'
+                '<edge source="y" target="z"><data key="c">155</data><data key="d">M</data></edge><edge source="x" target="z"/></graph></graphml>')
+        with tempfile.TemporaryDirectory() as folder:
+            path = pathlib.Path(folder)
+            (path / "graph").write_text(text)
+            status, _, said = planner("from-graphml", path / "graph", *ASKED, "--speeds", path / "speeds", "--distances", path / "distances")
+            self.assertEqual(status, 0, said)
+            self.assertEqual([(path / name).read_text().splitlines()[1:] for name in ("speeds", "distances")],
+                             [["x:1 y:1 10.000", "y:2 z:1 645.161"], ["x:1 y:1 7.500"]])
+            self.assertIn("1 of 3 links have no weight in", said)
+            self.assertIn("distances, as the graph doesn't tell it: y:2 - z:1, x:2 - z:2", said)
 
     def test_names_that_are_none_or_not_alone(self):
         made, _ = self.converted("regional", *ASKED)

@@ -1,0 +1,93 @@
+"""The files behind the words of a command of this package, and what the program says of them."""
+import os
+import re
+import sys
+
+from planner_tools import network as nets
+from planner_tools import program
+from planner_tools.files import NotJson, read_json
+from planner_tools.proved import Given, Refusals, Run, Stop, inside
+from planner_tools.voice import Voice
+from planner_tools.words import BY_NAME, Command
+
+WRONG_WORDS, BAD_FILE, UNREAD = 2, 3, 6
+
+
+def files_of(name, typed):
+    """The files that the words of a command name, by their words in its usage: a folder stands for the names that are left out, `-` for the standard input."""
+    usage = re.split(r" \[?--", BY_NAME[name].usage)[0]
+    run = Run([name, *typed], Refusals)
+    run.command = Command(name, usage, "", "")
+    wanted, least = run.command.words()
+    run.resolve()
+    if len(run.files) < least or len(typed) > len(wanted):
+        raise Stop(f"{name}: the words are {usage}, and there are {'more' if len(typed) > len(wanted) else 'fewer'}", WRONG_WORDS, [f"planner {name} {BY_NAME[name].usage}"])
+    for file in run.files.values():
+        file.kept = run.spooled          # what came from the standard input is there as long as this
+    return run.files
+
+
+def beside(folder, name):
+    """A file that an option names: where the first word is a folder and the name is no file, but one of the folder, it is that one."""
+    found = inside(folder, name) if folder is not None and os.path.isdir(folder) else name
+    return found if isinstance(found, Given) else Given(name, name)
+
+
+def asked(command, good=(0,), **files):
+    """What the program writes for a command over files, which are given by the words of its usage. Where its status is no good one it is said why, and it is
+    Stop."""
+    run = Run([command], Refusals)
+    run.files = {word: file for word, file in files.items() if file is not None}
+    run.passed = [command, *(file.real for file in run.files.values())]
+    run.program = program.path()
+    run.status, run.text = run.ask(*run.passed)
+    if run.status not in good:
+        run.safely(run.explain)
+        raise Stop(None, run.status if run.status >= 0 else 128 - run.status)
+    return run.text
+
+
+def network_of(file):
+    """The network of a topology that the program has read."""
+    return nets.Network(json_of(file))
+
+
+def rules_of(file):
+    """The rules of a configuration that the program has read."""
+    return nets.plain(json_of(file).root)["rules"]
+
+
+def json_of(file):
+    try:
+        return read_json(file.real, file.shown)
+    except NotJson as fault:
+        raise Stop(f"{file.shown}: {fault.what}", BAD_FILE) from fault
+
+
+def text_of(file):
+    """The text of a file of lines."""
+    try:
+        with open(file.real, "rb") as source:
+            return source.read().decode("utf-8-sig")
+    except OSError as fault:
+        raise Stop(f"{file.shown}: {fault.strerror}", UNREAD) from fault
+    except UnicodeDecodeError as fault:
+        raise Stop(f"{file.shown}: it is no text in UTF-8", BAD_FILE) from fault
+
+
+def done(work, words):
+    """Does the work of a command, which returns the exit status and the text to write, and returns the status."""
+    try:
+        status, text = work(words)
+    except Stop as stop:
+        if stop.args[0] is None:
+            return stop.status       # what the program refused is said already
+        Voice().refuse(str(stop), stop.more)
+        return stop.status
+    except OSError as fault:
+        if fault.filename is None:
+            raise
+        Voice().refuse(f"{fault.filename}: {fault.strerror}")
+        return UNREAD
+    sys.stdout.write(text)
+    return status

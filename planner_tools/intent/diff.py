@@ -1,0 +1,225 @@
+"""`planner diff`: what another configuration changes for whom.
+
+    planner diff TOPO OLD NEW [POLICY] [--json]
+
+Of each class of packets its path under both configurations is compared, as `paths` of the program writes it. Those that go alike are counted; the others are
+told by host ports, VLANs and prefixes, put together where they say the same, with both paths, and with the rules that make the difference: those at each switch
+where both paths come by the same port and go on differently.
+
+Exit status: 0 said, whatever changes; 2 wrong words; 3, 6 and 9 as `paths`.
+"""
+import argparse
+import json
+
+from planner_tools import network as nets
+from planner_tools.files import counted
+from planner_tools.intent.asking import asked, done, files_of, network_of, rules_of
+from planner_tools.intent.classes import Beside, Paths, grouped, prefixes, range_words, ranges, shortened, vlan_value, vlan_words
+from planner_tools.intent.lookup import Tables
+
+# What may become of a class, in the order in which it is told: the word for machines, and words of the count.
+KINDS = {"lost": "arrive no more", "gained": "arrive now and didn't", "elsewhere": "leave at another host port", "way": "go another way", "stopped": "are stopped elsewhere"}
+HEADS = {"lost": "no more:", "gained": "now, and not before:", "elsewhere": "at another host port:", "way": "another way:", "stopped": "stopped elsewhere:"}
+# So many host ports, prefixes and rules of a line are told.
+TOLD = 8
+# So many lines a summary has for what changes.
+SUMMARY = 24
+
+
+def kind_of(old, new):
+    """What becomes of a class whose paths differ."""
+    if old.has_left() != new.has_left():
+        return "gained" if new.has_left() else "lost"
+    if not old.has_left():
+        return "stopped"
+    return "way" if old.at == new.at else "elsewhere"
+
+
+def turns(old, new):
+    """The stops that both paths have and behind which they go on differently."""
+    before, after = old.following(), new.following()
+    return [stop for stop, then in before.items() if stop in after and after[stop] != then]
+
+
+class Change:
+    """What changes alike for some classes: host ports with VLANs and ranges, both ways, how either breaks the policy, and the rules at each turn."""
+
+    def __init__(self, hosts, vlans, found, old, new, breaks, count):
+        self.hosts, self.vlans, self.ranges, self.old, self.new, self.breaks, self.count = hosts, vlans, found, old, new, breaks, count
+        self.kind, self.rules = kind_of(old, new), []
+
+
+class Difference:
+    """What another configuration changes."""
+
+    def __init__(self, old, new, before, after):
+        """Of two listings of paths, and of the rules of both."""
+        self.both, self.tables = Beside(old, new), (Tables(before), Tables(after))
+        self.turns, self.counts = {}, dict.fromkeys([*KINDS, "same"], 0)
+        self.changes = self.merged(self.differing())
+        order = list(KINDS)
+        numbers = {entry: number for number, entry in enumerate(self.both.entries)}
+        self.changes.sort(key=lambda one: (order.index(one.kind), numbers[one.hosts[0], one.vlans[0]], one.ranges))
+
+    def differing(self):
+        """The atoms of each host port and VLAN at which the paths differ, by what is alike of them: the keys of both ways, and how they break the policy."""
+        found, ways = {}, {}
+        for entry in self.both.entries:
+            marks = self.both.marks_of_entry(entry)
+            for atom, (old, new) in enumerate(self.both.of_entry(entry)):
+                if old is new or old.key == new.key:
+                    self.counts["same"] += 1
+                    continue
+                self.counts[kind_of(old, new)] += 1
+                key = (old.key, new.key, *map(broken, marks[atom]))
+                ways.setdefault(key, (old, new))
+                found.setdefault(key, {}).setdefault(entry, []).append(atom)
+        return [(ways[key], key[2:], by_entry) for key, by_entry in found.items()]
+
+    def merged(self, differing):
+        changes = []
+        for (old, new), breaks, by_entry in differing:
+            for hosts, vlans, atoms in grouped({entry: tuple(atoms) for entry, atoms in by_entry.items()}):
+                change = Change(hosts, vlans, ranges(atoms, self.both.firsts), old, new, breaks, len(hosts) * len(vlans) * len(atoms))
+                change.rules = self.rules_at_turns(hosts, vlans, atoms, old, new)
+                changes.append(change)
+        return changes
+
+    def rules_at_turns(self, hosts, vlans, atoms, old, new):
+        """The rules that count where the paths part, as the switch and both rules, each pair once."""
+        found = {}
+        key = (old.key, new.key)
+        if key not in self.turns:
+            self.turns[key] = [(stop == old.places()[0], *stop.rpartition(":")[::2]) for stop in turns(old, new)]
+        for at_entry, switch, port in self.turns[key]:
+            for in_port in [int(host.rpartition(":")[2]) for host in hosts] if at_entry else [int(port)]:
+                for vlan in vlans:
+                    for atom in atoms:
+                        pair = [tables.rule(switch, in_port, vlan, self.both.firsts[atom]) for tables in self.tables]
+                        found.setdefault((switch, *map(id, pair)), (switch, *pair))
+        return list(found.values())
+
+    def breaking(self):
+        """How many classes break the policy under the old and under the new configuration."""
+        found = [0, 0]
+        for entry in self.both.entries:
+            for marks in self.both.marks_of_entry(entry):
+                for end, mark in enumerate(marks):
+                    found[end] += broken(mark) is not None
+        return found
+
+    # ---- for machines
+
+    def values(self, has_policy):
+        values = {"classes": self.both.count(), "counts": self.counts}
+        if has_policy:
+            values["breaking"] = dict(zip(("old", "new"), self.breaking()))
+        return {**values, "changes": [self.change_values(one, has_policy) for one in self.changes]}
+
+    @staticmethod
+    def change_values(one, has_policy):
+        values = {"kind": one.kind, "classes": one.count, "from": one.hosts, "vlans": [vlan_value(vlan) for vlan in one.vlans], "prefixes": prefixes(one.ranges),
+                  "old": way_values(one.old), "new": way_values(one.new)}
+        if has_policy:
+            values["breaks"] = dict(zip(("old", "new"), one.breaks))
+        return {**values, "rules": [{"switch": switch, "old": old, "new": new} for switch, old, new in one.rules]}
+
+    # ---- in words
+
+    def head(self, policy):
+        """The counts, as lines."""
+        counts = self.counts
+        lines = [f"{counted(self.both.count(), 'class', 'classes')} of packets: "
+                 + ", ".join(f"{counts[kind]} {words}" for kind, words in KINDS.items() if counts[kind] or kind in ("lost", "gained", "way")) + f", {counts['same']} as before"]
+        if policy is not None:
+            before, after = self.breaking()
+            lines.append(f"{policy}: {counted(before, 'class breaks', 'classes break')} it under the old rules, {after} under the new ones")
+        return lines
+
+    def change_lines(self, one, network, has_policy):
+        """A change: for whom, both ways, and the rules."""
+        who = ", ".join(filter(None, (f"from {shortened(one.hosts, TOLD)}", vlan_words(one.vlans, self.both.vlans))))
+        lines = [f"  {who}: {shortened(range_words(one.ranges), TOLD)} ({counted(one.count, 'class', 'classes')})",
+                 f"    was {way_words(one.old)}{break_words(one.breaks[0], has_policy)}", f"    now {way_words(one.new)}{break_words(one.breaks[1], has_policy)}"]
+        lines += [f"    {rule_words(*rules, network)}" for rules in one.rules[:TOLD]]
+        return lines + ([f"    and {len(one.rules) - TOLD} more rules"] if len(one.rules) > TOLD else [])
+
+    def lines(self, network, policy, most=None):
+        """The counts, and what changes for whom. With `most` so many lines of changes at the most, and how many are left."""
+        lines, kind = self.head(policy), None
+        for number, one in enumerate(self.changes):
+            mine = self.change_lines(one, network, policy is not None)
+            mine = mine if one.kind == kind else ["", HEADS[one.kind], *mine]
+            if most is not None and number and len(lines) + len(mine) > most:
+                return [*lines, f"and {len(self.changes) - number} more such paragraphs"]
+            lines += mine
+            kind = one.kind
+        return lines
+
+
+def way_values(way):
+    return {"stops": way.places(), "end": way.end, "at": way.at}
+
+
+def way_words(way):
+    """A path in words: the switches, and how it ends."""
+    end = {"left": "leaves at {at}", "dropped": "dropped at {at}", "again": "comes to {at} again"}[way.end]
+    return f"{' '.join(way.switches())}, {end.format(at=way.at)}"
+
+
+def broken(mark):
+    """How a path breaks the policy, or None where it doesn't."""
+    return None if mark in ("good", "free") else mark
+
+
+def break_words(mark, has_policy):
+    """What the policy says of a path, where it says no."""
+    if not has_policy or mark is None:
+        return ""
+    how, switch = mark.split(" ")
+    return {"Dropped": ": it must arrive", "Missed": f": it has to meet {switch}", "Loop": ""}[how]
+
+
+def rule_words(switch, old, new, network):
+    """The rules that make a difference at a switch, in words."""
+    if old is not None and new is not None and all(old.get(part) == new.get(part) for part in ("priority", "dst", "in_port", "vlan")):
+        return f"{switch}: {nets.change_words('replace', new, old, network)}"
+    return f"{switch}: {one_rule(new, network)}; was {one_rule(old, network)}"
+
+
+def one_rule(rule, network):
+    return "no rule" if rule is None else f"{nets.match_words(rule)} {nets.action_words(rule, network)}, priority {rule['priority']}"
+
+
+def difference(files):
+    """What NEW changes, of files that the program reads."""
+    policy = files.get("POLICY")
+    listed = [Paths(asked("paths", (0, 1), TOPO=files["TOPO"], CONFIG=files[word], POLICY=policy)) for word in ("OLD", "NEW")]
+    return Difference(*listed, rules_of(files["OLD"]), rules_of(files["NEW"]))
+
+
+def summary(files, most=SUMMARY):
+    """What NEW changes for whom, in lines, of which there are not many: for whoever has to say whether the change is wanted. The files are given by the words
+    TOPO, OLD, NEW and POLICY."""
+    policy = files.get("POLICY")
+    return difference(files).lines(network_of(files["TOPO"]), policy.shown if policy is not None else None, most)
+
+
+def parser_of():
+    parser = argparse.ArgumentParser(prog="planner diff", description="Says which classes of packets go another way under NEW, arrive no more, or arrive now and didn't; and which rules do that.")
+    parser.add_argument("files", metavar="FILE", nargs="+", help="TOPO OLD NEW [POLICY], or a folder in place of those that are left out")
+    parser.add_argument("--json", action="store_true", help="writes JSON, for machines")
+    return parser
+
+
+def work(words):
+    given = parser_of().parse_intermixed_args(words)
+    files = files_of("diff", given.files)
+    found, policy = difference(files), files.get("POLICY")
+    if given.json:
+        return 0, json.dumps(found.values(policy is not None), indent=1) + "\n"
+    return 0, "\n".join(found.lines(network_of(files["TOPO"]), policy.shown if policy is not None else None)) + "\n"
+
+
+def main(words):
+    return done(work, words)

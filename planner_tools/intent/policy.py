@@ -1,0 +1,259 @@
+"""`planner policy`: a policy made of what both configurations of an update do.
+
+    planner policy TOPO OLD NEW [--through SWITCH].. [--changed]
+
+Each class of packets that leaves the network under OLD and under NEW must arrive (`deliver`). Of the switches behind `--through` it has to meet those that both
+of its paths meet, in the order in which both meet them; where the orders differ, as many as agree, and each other one by itself. The demands are put together to
+few: over all host ports or all VLANs where it is so for each, and over the greatest prefixes. What else the classes do stays free, and is listed on the error
+stream. With `--changed` there are demands for the classes alone whose paths differ.
+
+Before the policy is written, `config` has accepted it over both configurations.
+
+Exit status: 0 written; 1 a configuration has no good path for some class, or it takes more demands than a policy has; 2 wrong words; 3, 6 and 9 as `config`.
+"""
+import argparse
+import bisect
+import itertools
+import json
+import tempfile
+
+from planner_tools.files import counted, did_you_mean
+from planner_tools.intent.asking import asked, done, files_of, network_of
+from planner_tools.intent.classes import Beside, Paths, blocks, grouped, prefix_text, range_words, ranges, vlan_value, vlan_words
+from planner_tools.proved import Given, Stop
+from planner_tools.voice import Voice
+
+WRONG_WORDS, REFUSED = 2, 1
+MOST_DEMANDS, LONGEST_CHAIN = 512, 16
+ANY = "any"
+# What a class does for which no demand speaks, in the order in which it is told.
+FREE = {"old": "arrive under the old rules alone", "new": "arrive under the new rules alone", "neither": "arrive under neither", "same": "go as before, and arrive"}
+
+
+# ---- what both paths meet
+
+def longest_common(one, other):
+    """The longest list of names that stand in both lists in the same order. Each name stands once in both, and in both the same ones."""
+    place = {name: at for at, name in enumerate(other)}
+    ends, heads, before = [], [], {}         # for each length the least place at which such a list may end, and the name there
+    for name in one:
+        length = bisect.bisect_left(ends, place[name])
+        before[name] = heads[length - 1] if length else None
+        ends[length:length + 1], heads[length:length + 1] = [place[name]], [name]
+    found, name = [], heads[-1] if heads else None
+    while name is not None:
+        found.append(name)
+        name = before[name]
+    return tuple(reversed(found))
+
+
+def chains_of(old, new, through):
+    """The chains of waypoints that both paths meet in their order, none longer than a demand may have."""
+    mine, others = ([name for name in dict.fromkeys(way.switches()) if name in through] for way in (old, new))
+    mine, others = [name for name in mine if name in others], [name for name in others if name in mine]
+    longest = longest_common(mine, others)
+    pieces = [longest[at:at + LONGEST_CHAIN] for at in range(0, max(len(longest) - 1, 1), LONGEST_CHAIN - 1)] if longest else []
+    return [*pieces, *((name,) for name in mine if name not in longest)]
+
+
+class Wanted:
+    """What the classes of two configurations do: which arrive under both, by host port and VLAN, and which of them meet which chains."""
+
+    def __init__(self, both, through, only_changed):
+        self.both, self.only_changed = both, only_changed
+        self.arriving, self.changed, self.chains, self.free = {}, {}, {}, {}
+        kept = {}
+        for entry in both.entries:
+            for atom, (old, new) in enumerate(both.of_entry(entry)):
+                if (old, new) not in kept:
+                    is_both = old.has_left() and new.has_left()
+                    kept[old, new] = (is_both, chains_of(old, new, through) if is_both and through else [])
+                self.take(entry, atom, old, new, *kept[old, new])
+
+    def take(self, entry, atom, old, new, is_both, chains):
+        is_changed = old.key != new.key
+        if is_both:
+            self.arriving.setdefault(entry, set()).add(atom)
+        if is_both and (is_changed or not self.only_changed):
+            self.changed.setdefault(entry, set()).add(atom)
+        else:
+            kind = "same" if is_both else "old" if old.has_left() else "new" if new.has_left() else "neither"
+            self.free.setdefault(kind, {}).setdefault(entry, []).append(atom)
+        for chain in chains:
+            self.chains.setdefault(chain, {}).setdefault(entry, set()).add(atom)
+
+    def needed(self, by_entry):
+        """Those of some classes for which a demand is wanted."""
+        found = {entry: atoms & self.changed.get(entry, set()) for entry, atoms in by_entry.items()}
+        return {entry: atoms for entry, atoms in found.items() if atoms}
+
+
+# ---- few demands
+
+class Cover:
+    """Host ports or any, VLANs or any, and prefixes that cover the needed classes and none that isn't allowed."""
+
+    def __init__(self, both, allowed):
+        self.both, self.allowed, self.kept = both, allowed, {}
+
+    def fewest(self, needed):
+        """The shortest of the covers that take first the one and then the other kind of groups."""
+        ways = [kept for count in (3, 2, 1, 0) for kept in itertools.combinations(("all", "vlan", "host"), count)]
+        return min((self.by((*kept, "entry"), needed) for kept in ways), key=len)
+
+    def by(self, kinds, needed):
+        left, found = {entry: set(atoms) for entry, atoms in needed.items()}, []
+        for kind in kinds:
+            for host, vlan in self.groups(kind, left):
+                found += [(host, vlan, block) for block in self.of_group(host, vlan, left)]
+            left = {entry: atoms for entry, atoms in left.items() if atoms}
+        return found
+
+    @staticmethod
+    def groups(kind, left):
+        """The groups of a kind in which something is left."""
+        if kind == "all":
+            return [(ANY, ANY)] if left else []
+        if kind == "entry":
+            return list(left)
+        if kind == "vlan":
+            return dict.fromkeys((ANY, vlan) for _, vlan in left)
+        return dict.fromkeys((host, ANY) for host, _ in left)
+
+    def of_group(self, host, vlan, left):
+        """The greatest prefixes that are allowed for each entry of a group, as far as something that is left lies in them; that is left no more."""
+        entries = [(one, other) for one in (self.both.hosts if host == ANY else [host]) for other in (self.both.vlans if vlan == ANY else [vlan])]
+        common, found = self.common(host, vlan, entries)
+        wanted = set()
+        for entry in entries if common else ():
+            if entry in left:
+                wanted |= left[entry] & common
+                left[entry] -= common
+        return [block for block in found if self.touches(block, wanted)] if wanted else []
+
+    def common(self, host, vlan, entries):
+        """The atoms that are allowed for each entry of a group, and the fewest prefixes of them."""
+        if (host, vlan) not in self.kept:
+            is_whole = all(entry in self.allowed for entry in entries)
+            atoms = set.intersection(*sorted((self.allowed[entry] for entry in entries), key=len)) if is_whole else set()
+            self.kept[host, vlan] = atoms, [block for one in ranges(sorted(atoms), self.both.firsts) for block in blocks(*one)]
+        return self.kept[host, vlan]
+
+    def touches(self, block, atoms):
+        first, length = block
+        begin, end = (bisect.bisect_right(self.both.firsts, at) for at in (first, first + (1 << 32 - length) - 1))
+        return any(atom in atoms for atom in range(begin - 1, end))
+
+
+def demands_of(wanted):
+    """The demands of a policy: first those with waypoints, then those of what only has to arrive."""
+    found, covered = [], {}
+    for chain, by_entry in wanted.chains.items():
+        needed = wanted.needed(by_entry)
+        found += [(chain, *one) for one in Cover(wanted.both, by_entry).fewest(needed)] if needed else []
+        for entry, atoms in needed.items():
+            covered.setdefault(entry, set()).update(atoms)
+    left = {entry: atoms - covered.get(entry, set()) for entry, atoms in wanted.needed(wanted.arriving).items()}
+    found += [((), *one) for one in Cover(wanted.both, wanted.arriving).fewest({entry: atoms for entry, atoms in left.items() if atoms})]
+    return [demand_value(*one) for one in found]
+
+
+def demand_value(chain, host, vlan, block):
+    """A demand as a policy has it."""
+    value = {} if host == ANY else {"from": host}
+    value |= {} if vlan == ANY else {"vlan": vlan_value(vlan)}
+    value["dst"] = prefix_text(*block)
+    value |= {"through": list(chain)} if chain else {}
+    return {**value, "deliver": True}
+
+
+# ---- the answer
+
+def policy_text(demands):
+    """The file, a line for each demand."""
+    lines = ",\n".join(f"    {json.dumps(one)}" for one in demands)
+    return '{\n  "demands": [\n' + lines + "\n  ]\n}\n" if demands else '{\n  "demands": []\n}\n'
+
+
+def free_lines(wanted):
+    """The classes for which no demand speaks, by what they do, put together where they do the same."""
+    lines = []
+    for kind, words in FREE.items():
+        by_entry = wanted.free.get(kind, {})
+        count = sum(map(len, by_entry.values()))
+        if not count:
+            continue
+        lines.append(f"{counted(count, 'class', 'classes')} {words}:")
+        for hosts, vlans, atoms in grouped({entry: tuple(atoms) for entry, atoms in by_entry.items()}):
+            who = ", ".join(filter(None, (f"from {'any host' if len(hosts) == len(wanted.both.hosts) else ', '.join(hosts)}", vlan_words(vlans, wanted.both.vlans))))
+            lines.append(f"  {who}: {', '.join(range_words(ranges(atoms, wanted.both.firsts)))}")
+    return lines
+
+
+def named_switches(given, network):
+    """The switches behind `--through`."""
+    names = [name for one in given for name in one.split(",") if name]
+    for name in names:
+        if name not in network.numbers:
+            raise Stop(f"--through {name}: the network has no such switch{did_you_mean(name, network.numbers)}", WRONG_WORDS)
+    return frozenset(names)
+
+
+def refuse_too_many(demands, only_changed):
+    if len(demands) > MOST_DEMANDS:
+        raise Stop(f"it takes {len(demands)} demands, and a policy has at most {MOST_DEMANDS}: nothing is written", REFUSED,
+                   ["Next: give fewer switches with --through" + ("" if only_changed else ", or ask with --changed for the classes alone whose paths differ")])
+
+
+def good_paths(topology, config):
+    """The paths of a configuration under which no packet comes to a switch twice. Where one does, `config` says which."""
+    text = asked("paths", (0, 1), TOPO=topology, CONFIG=config)
+    if not text.endswith(" 0 break\n"):
+        asked("config", TOPO=topology, CONFIG=config)
+    return Paths(text)
+
+
+def judged(files, text):
+    """Sees that both configurations keep the policy."""
+    with tempfile.NamedTemporaryFile("w", prefix="planner-", suffix=".json", encoding="utf-8") as file:
+        file.write(text)
+        file.flush()
+        for word in ("OLD", "NEW"):
+            asked("config", TOPO=files["TOPO"], CONFIG=files[word], POLICY=Given(file.name, "the policy that was made"))
+
+
+def parser_of():
+    parser = argparse.ArgumentParser(prog="planner policy", description="Writes a policy of what both configurations do: what arrives under both must arrive.")
+    parser.add_argument("files", metavar="FILE", nargs="+", help="TOPO OLD NEW, or a folder in place of those that are left out")
+    parser.add_argument("--through", metavar="SWITCH", action="append", default=[], help="a switch that a class has to meet where both of its paths meet it; several may be given, "
+                        "also with commas")
+    parser.add_argument("--changed", action="store_true", help="demands for those classes alone whose paths differ")
+    return parser
+
+
+def work(words):
+    given = parser_of().parse_intermixed_args(words)
+    files = files_of("policy", given.files)
+    both = Beside(*(good_paths(files["TOPO"], files[word]) for word in ("OLD", "NEW")))
+    through = named_switches(given.through, network_of(files["TOPO"]))
+    wanted = Wanted(both, through, given.changed)
+    demands = demands_of(wanted)
+    refuse_too_many(demands, given.changed)
+    text = policy_text(demands)
+    judged(files, text)
+    say(wanted, demands, through)
+    return 0, text
+
+
+def say(wanted, demands, through):
+    """What the policy asks for, and what stays free."""
+    asked_for = sum(map(len, wanted.changed.values()))
+    Voice().note(f"{counted(len(demands), 'demand')}: {asked_for} of {counted(wanted.both.count(), 'class', 'classes')} of packets must arrive; the others stay free",
+                 free_lines(wanted))
+    unmet = sorted(through - {name for chain in wanted.chains for name in chain})
+    if unmet:
+        Voice().warn(f"no class that arrives under both meets {', '.join(unmet)} under both: nothing is demanded of {'it' if len(unmet) == 1 else 'them'}")
+
+
+def main(words):
+    return done(work, words)
