@@ -55,7 +55,11 @@ def ended(number, _):
 
 def main(words):
     """Does what the words say, and returns the exit status."""
-    status = answer(words)
+    if "--json" in words:
+        from planner_tools.report import report
+        status = report(words, answer)
+    else:
+        status = answer(words)
     try:
         sys.stdout.flush()
     except OSError as fault:
@@ -72,7 +76,8 @@ def unwritten(fault):
     return UNWRITTEN
 
 
-def answer(words):
+def answer(words, begin=None):
+    """Does what the words say. `begin` makes the run of a proved command, where that isn't a `Run`."""
     if words[:1] == ["--version"]:
         from planner_tools.version import VERSION
         print(f"planner {VERSION}")
@@ -86,7 +91,7 @@ def answer(words):
             return run_module(words, Options())
         options, rest = take_options(words)
         signal.signal(signal.SIGTERM, ended)
-        return run_module(rest, options) if rest and rest[0] in MODULES else Run(rest, options).run()
+        return run_module(rest, options) if rest and rest[0] in MODULES else (begin or Run)(rest, options).run()
     except Stop as stop:
         Voice().refuse(str(stop), stop.more)
         return stop.status

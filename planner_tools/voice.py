@@ -15,6 +15,8 @@ def has_colour(stream):
 class Voice:
     """Says things on a stream, each with further lines below it. A quiet one says refusals alone."""
 
+    listener = None      # what is called in place of writing, where the answer is one for machines
+
     def __init__(self, stream=None, is_quiet=False):
         self.stream, self.is_quiet = stream or sys.stderr, is_quiet
         self.has_colour = has_colour(self.stream)
@@ -31,6 +33,9 @@ class Voice:
             self.say("planner: note: ", BLUE, what, more)
 
     def say(self, head, colour, what, more):
+        if Voice.listener is not None:
+            Voice.listener(head, what, more)
+            return
         lines = [f"{colour}{head.rstrip()}{PLAIN} {what}" if self.has_colour else head + what]
         lines += [line for one in more for line in (textwrap.wrap(one, WIDTH, initial_indent="    ", subsequent_indent="      ", break_long_words=False,
                                                                  break_on_hyphens=False) or [""])]

@@ -34,6 +34,7 @@ import signal
 import sys
 import time
 
+from planner_tools import events
 from planner_tools.switches import openflow
 from planner_tools.switches.comparison import Comparison
 from planner_tools.switches.connections import Stop, Switches, host_and_port, say
@@ -203,6 +204,7 @@ def stopped(update, options, why):
     else:
         far = "nothing was sent in this run" if options.resume else "nothing was sent"
     say(f"stopped: {what}; {far}. Next: {then}")
+    events.tell("stopped", what=what, far=far, next=then)
     if update is None:
         return
     if update.core is None and not options.resume:

@@ -19,7 +19,7 @@ import os
 import shlex
 import sys
 
-from planner_tools import program
+from planner_tools import events, program
 from planner_tools.switches import apply, collect
 from planner_tools.switches.connections import host_and_port
 from planner_tools.update.summary import summary
@@ -145,6 +145,7 @@ class Update:
         files = [self.files["topology"], self.path("old.json"), self.files["new"], self.files["policy"]]
         text = self.of_program("plan", PLANNERS[0], *files)
         self.write("plan.json", text)
+        events.tell("plan", file=self.path("plan.json"), plan=json.loads(text))
         say(self.of_program("check", "check", *files, self.path("plan.json")).strip())
         return json.loads(text)
 
@@ -198,6 +199,7 @@ def main(words):
     try:
         return update.run()
     except Stopped as stop:
+        events.tell("stopped", what=stop.what, far="nothing was sent", next=stop.then)
         say(stop.line())
         return stop.status
     except program.NoProgram as fault:
