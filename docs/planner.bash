@@ -8,7 +8,7 @@ _planner() {
         return
     fi
     if [[ ${COMP_WORDS[COMP_CWORD]} == -* ]]; then
-        local options="--help -o --strict --quiet"
+        local options="--help -o --strict --quiet --json"
         case ${COMP_WORDS[1]} in
             collect) options="--switches --listen --patience $options" ;;
             apply) options="--switches --listen --wait --ask --patience --resume --back --repair --take-over --no-mark $options" ;;

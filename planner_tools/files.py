@@ -66,6 +66,8 @@ class Value:
 class Text:
     """A file as text, which knows its lines. `path` is the name as it was typed."""
 
+    told = None          # where the answer is one for machines, the places that were put into words: the words, the text, the character
+
     def __init__(self, path, data):
         self.path = path
         self.data = data
@@ -82,7 +84,10 @@ class Text:
     def where(self, at):
         """Words for a place in the file."""
         line, column = self.place(at)
-        return f"{self.path}, line {line}, column {column}"
+        words = f"{self.path}, line {line}, column {column}"
+        if Text.told is not None:
+            Text.told.append((words, self, at))
+        return words
 
     def shown(self, value):
         """The text of a value, on one line and not longer than some characters."""

@@ -78,7 +78,11 @@ def fill_gaps():
 def main(words):
     """Does what the words say, and returns the exit status."""
     fill_gaps()
-    status = answer(words)
+    if "--json" in words:
+        from planner_tools.report import report
+        status = report(words, answer)
+    else:
+        status = answer(words)
     try:
         sys.stdout.flush()
     except OSError as fault:
@@ -94,7 +98,8 @@ def unwritten(fault):
     return UNWRITTEN
 
 
-def answer(words):
+def answer(words, begin=None):
+    """Does what the words say. `begin` makes the run of a proved command, where that isn't a `Run`."""
     if words[:1] == ["--version"]:
         from planner_tools.version import VERSION
         print(f"planner {VERSION}\n{program.described()}")
@@ -109,7 +114,7 @@ def answer(words):
         options, rest = take_options(words)
         import signal
         signal.signal(signal.SIGTERM, ended)
-        return run_module(rest, options) if rest and rest[0] in MODULES else Run(rest, options).run()
+        return run_module(rest, options) if rest and rest[0] in MODULES else (begin or Run)(rest, options).run()
     except Stop as stop:
         Voice().refuse(str(stop), stop.more)
         return stop.status

@@ -22,6 +22,8 @@ def wrapped(text):
 class Voice:
     """Says things on a stream, each with further lines below it. A quiet one says refusals alone."""
 
+    listener = None      # what is called in place of writing, where the answer is one for machines
+
     def __init__(self, stream=None, is_quiet=False):
         self.stream, self.is_quiet = stream or sys.stderr, is_quiet
         self.has_colour = has_colour(self.stream)
@@ -38,6 +40,9 @@ class Voice:
             self.say("planner: note: ", BLUE, what, more)
 
     def say(self, head, colour, what, more):
+        if Voice.listener is not None:
+            Voice.listener(head, what, more)
+            return
         lines = [f"{colour}{head.rstrip()}{PLAIN} {what}" if self.has_colour else head + what]
         lines += [line for one in more for line in wrapped(one)]
         try:

@@ -240,6 +240,7 @@ OPTIONS = [
     ("-o FILE", "Writes the answer into FILE, which is there only where the exit status is 0. Another answer goes to the standard output."),
     ("--strict", "Makes warnings exit status 3, with nothing written."),
     ("--quiet", "Says nothing on the error stream but refusals."),
+    ("--json", "Writes the answer, and what is said beside it, as one object of JSON; of update and apply a line for each event."),
 ]
 SHORT_HANDS = (
     "A folder in place of TOPO stands for the files of it that are left out: topology.json, old.json (also for CONFIG), new.json, policy.json, plan.json, "

@@ -66,10 +66,16 @@ def names_read(tree):
     return {node.id for node in ast.walk(tree) if isinstance(node, ast.Name) and not isinstance(node.ctx, ast.Store)}
 
 
+def names_offered(tree):
+    """The names that a package lists in its `__all__`."""
+    lists = [node.value for node in tree.body if isinstance(node, ast.Assign) and any(isinstance(one, ast.Name) and one.id == "__all__" for one in node.targets)]
+    return {one.value for it in lists for one in ast.walk(it) if isinstance(one, ast.Constant)}
+
+
 def unused_imports(tree, text):
-    used, lines, found = names_read(tree), text.splitlines(), []
+    used, lines, found = names_read(tree) | names_offered(tree), text.splitlines(), []
     for node in ast.walk(tree):
-        if isinstance(node, (ast.Import, ast.ImportFrom)):
+        if isinstance(node, (ast.Import, ast.ImportFrom)) and getattr(node, "module", None) != "__future__":
             for one in node.names:
                 name = (one.asname or one.name).split(".")[0]
                 if name not in used and name != "*" and "noqa: F401" not in lines[node.lineno - 1]:

@@ -34,7 +34,7 @@ import select
 import sys
 import time
 
-from planner_tools import program
+from planner_tools import events, program
 from planner_tools.proved import How, look
 from planner_tools.switches import ends, openflow
 from planner_tools.switches.comparison import Comparison
@@ -208,6 +208,7 @@ def stopped(update, options, why):
     else:
         far = "nothing was sent in this run" if options.resume else "nothing was sent"
     say(f"stopped: {what}; {far}. Next: {then}")
+    events.tell("stopped", what=what, far=far, next=then)
     if update is None:
         return
     if update.core is None and not options.resume:

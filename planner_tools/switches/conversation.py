@@ -6,6 +6,7 @@ import struct
 import tempfile
 import time
 
+from planner_tools import events
 from planner_tools.proved import say_why
 from planner_tools.switches import openflow
 from planner_tools.switches.collect import Tables
@@ -96,6 +97,7 @@ class Conversation:
         carried_out, undone, failures = self.core.carried_out, self.core.undone, self.core.failures
         try:
             for line, block in zip(lines, self.serve.blocks(lines)):
+                events.tell_block(self.core, line, block, self.options.plan)
                 self.send(self.core.take(line, block))
                 if line in ("start", "back") and not block[-1].startswith("ok "):
                     raise Stop(f"`planner serve` answers `{block[-1]}` to `{line}`", "see what the record has; then go on with --resume")

@@ -21,7 +21,7 @@ import shutil
 import sys
 
 from planner_tools import network as nets
-from planner_tools import program, show
+from planner_tools import events, program, show
 from planner_tools.files import read_json
 from planner_tools.proved import How, answer_for, look, say_why
 from planner_tools.switches import apply, collect, connections, ends
@@ -158,6 +158,7 @@ class Update:
         files = [self.files["topology"], self.path("old.json"), self.files["new"], self.files["policy"]]
         text = self.of_program("plan", PLANNERS[0], *files)
         self.write("plan.json", text)
+        events.tell("plan", file=self.path("plan.json"), plan=json.loads(text))
         progress(self.of_program("check", "check", *files, self.path("plan.json")).strip())
         return json.loads(text)
 
@@ -241,6 +242,7 @@ def main(words):
     try:
         return update.run()
     except Stopped as stop:
+        events.tell("stopped", what=stop.what, far="nothing was sent", next=stop.then)
         say(stop.line())
         return stop.status
     except program.NoProgram as fault:

@@ -1,0 +1,192 @@
+"""`--json`: the answer of a command as one object for machines. docs/FRONT_END.md has its members. Of `update` and `apply` it is a line for each event."""
+import io
+import json
+import os
+import sys
+import tempfile
+
+from planner_tools import answers, events
+from planner_tools.files import Json, Text, member_path
+from planner_tools.proved import Run
+from planner_tools.voice import Voice
+
+FORMAT = 1
+# The commands that write events.
+WITH_EVENTS = ("apply", "update")
+# The command that has such an option of its own: its members stand beside the others.
+WITH_OPTION = "show"
+NOTHING, REFUSED = {}, 1
+
+
+def report(words, answer):
+    """Does what the words say, and writes the answer as an object. `answer` does it otherwise, and returns the exit status."""
+    others = [word for word in words if word != "--json"]
+    name = next((word for word in others if not word.startswith("-")), "")
+    if name in WITH_EVENTS and "--help" not in others:
+        return told(name, others, answer)
+    report_of = Report(name)
+    status = report_of.run([*others, "--json"] if name == WITH_OPTION and "--help" not in others else others, answer)
+    sys.stdout.write(json.dumps(report_of.values(status, output_of(others)), indent=1) + "\n")
+    return status
+
+
+def output_of(words):
+    """The file behind `-o`, or None."""
+    at = words.index("-o") if "-o" in words else len(words)
+    return words[at + 1] if at + 1 < len(words) else None
+
+
+def status_of(answer, *words, **more):
+    """The exit status of a command, also where a wrong word ended it."""
+    try:
+        return answer(*words, **more)
+    except SystemExit as end:
+        return end.code if isinstance(end.code, int) else REFUSED if end.code else 0
+
+
+def told(name, words, answer):
+    """Runs a command that writes events. The last one has the exit status."""
+    error, output = sys.stderr, sys.stdout
+    events.SINK, Voice.listener = output, events.heard
+    sys.stderr = events.Lines(error)
+    sys.stdout = io.StringIO()
+    try:
+        status = status_of(answer, words)
+        events.tell("end", command=name, status=status, verdict=answers.VERDICTS.get(status, "ended") if status != REFUSED else "stopped")
+        return status
+    finally:
+        sys.stdout, sys.stderr, events.SINK, Voice.listener = output, error, None, None
+
+
+class Asking(Run):
+    """A run of a proved command that keeps the ways of packets for which the program was asked meanwhile."""
+
+    def __init__(self, given, options):
+        super().__init__(given, options)
+        self.ways = []
+
+    def ask(self, *more):
+        status, text = super().ask(*more)
+        if more[0] == "trace" and status == 0:
+            file = next((one.shown for one in self.files.values() if one.real == more[2]), more[2])
+            self.ways.append((file, more[3:6], text))
+        return status, text
+
+
+class Held:
+    """Both output streams, kept in files as long as a command runs, also what the processes write that it begins."""
+
+    def __init__(self):
+        self.files = {one: tempfile.TemporaryFile(prefix="planner-") for one in (1, 2)}
+        self.before = {one: os.dup(one) for one in self.files}
+        self.texts = {}
+
+    def __enter__(self):
+        sys.stdout.flush()
+        sys.stderr.flush()
+        for one, file in self.files.items():
+            os.dup2(file.fileno(), one)
+        return self
+
+    def __exit__(self, *_):
+        sys.stdout.flush()
+        sys.stderr.flush()
+        for one, file in self.files.items():
+            os.dup2(self.before[one], one)
+            os.close(self.before[one])
+            file.seek(0)
+            self.texts[one] = file.read().decode("utf-8", "replace")
+            file.close()
+
+
+class Report:
+    """What a command answered, and what was said beside it."""
+
+    def __init__(self, name):
+        self.name, self.asking, self.text, self.lines = name, None, "", []
+        self.said = {"refusal": [], "warning": [], "note": []}
+        self.places = []
+
+    def run(self, words, answer):
+        """Runs the command, and keeps all that it writes and says."""
+        Voice.listener, Text.told = self.hear, self.places
+        held = Held()
+        try:
+            with held:
+                return status_of(answer, words, begin=self.begin)
+        except BaseException:
+            sys.stderr.write(held.texts.get(2, ""))
+            raise
+        finally:
+            Voice.listener = Text.told = None
+            self.text, self.lines = held.texts.get(1, ""), held.texts.get(2, "").splitlines()
+
+    def begin(self, given, options):
+        self.asking = Asking(given, options)
+        return self.asking
+
+    def hear(self, head, what, more):
+        """Takes what a voice says, with the places in files that it names."""
+        kind = next((one for one in ("warning", "note") if f" {one}:" in head), "refusal")
+        self.said[kind].append({"what": what, "more": list(more), "places": self.places_in([what, *more])})
+
+    def places_in(self, texts):
+        """The places that stand in some sentences, in the order in which they were found."""
+        found = []
+        for words, text, at in self.places:
+            line, column = text.place(at)
+            place = {"file": text.path, "line": line, "column": column, "member": member_at(text, at)}
+            if place not in found and any(words + "," in one or words + ":" in one or one.endswith(words) for one in texts):
+                found.append(place)
+        return found or [place for file in (self.asking.files.values() if self.asking else ()) for place in line_place(file, texts[0])]
+
+    def values(self, status, output):
+        """The object."""
+        reason, named = answers.reason_of(status, self.text) if self.asking else (None, None)
+        verdict = answers.verdict_of(self.name, status, self.text, self.said["warning"]) if self.asking else "stopped" if status == REFUSED else answers.verdict_of("", status)
+        own = self.own_values() if status == 0 and self.name == WITH_OPTION else NOTHING
+        is_written = output is not None and status == 0
+        return {"format": FORMAT, "command": self.name, "status": status, "verdict": verdict, "reason": reason, "class": named, "paths": self.paths(status),
+                "places": [place for one in self.said["refusal"] for place in one["places"]], "warnings": self.said["warning"], "refusals": self.said["refusal"],
+                "notes": self.said["note"], "said": self.lines, "output": output if is_written else None,
+                "answer": None if is_written or own else answers.value_of(self.name, status, self.text), **own}
+
+    def own_values(self):
+        try:
+            return json.loads(self.text)
+        except ValueError:
+            return NOTHING
+
+    def paths(self, status):
+        """The ways of packets that were looked at."""
+        ways = list(self.asking.ways) if self.asking else []
+        if self.name == "trace" and status == 0 and self.asking:
+            ways.append((self.asking.files["CONFIG"].shown, self.asking.passed[3:6], self.text))
+        found = []
+        for file, (entry, vlan, address), text in ways:
+            stops, end = answers.stops_of(text)
+            found.append({"file": file, "from": entry, "vlan": answers.vlan_value(vlan), "address": address, "stops": stops, "end": end})
+        return found
+
+
+def line_place(file, text):
+    """The line of a file that a sentence begins with, as a list of at most one place."""
+    number = text[len(file.shown) + len(", line "):].partition(":")[0] if text.startswith(f"{file.shown}, line ") else ""
+    return [{"file": file.shown, "line": int(number), "column": None, "member": None}] if number.isdigit() else []
+
+
+def member_at(text, at):
+    """The member of a JSON file whose value, or name, begins at a character, as links[4][1]; None where there is none."""
+    if not isinstance(text, Json):
+        return None
+    value, way = text.root, []
+    while value.start != at:
+        steps = [(name, start, one) for name, start, one in value.held] if value.kind == "object" else [(number, one.start, one) for number, one in enumerate(value.items())]
+        inner = next(((step, start, one) for step, start, one in steps if start <= at < one.end), None)
+        if inner is None:
+            return None
+        way.append(inner[0])
+        if inner[1] == at:
+            break
+        value = inner[2]
+    return member_path(tuple(way)) or None
