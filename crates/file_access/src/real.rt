@@ -6,17 +6,32 @@ use std::io::{Read, Write};
 use std::rt::Files;
 use std::{fs, io};
 
-/// Files by their paths. It keeps the name of the current file, in memory that it has from the beginning.
+/// The name of the standard input: descriptor 0, as the program got it.
+const STANDARD_INPUT: &str = "/dev/stdin";
+
+/// What bytes are taken from.
 #[derive(Drop)]
-pub struct FileSource<R: Files + AllocGlobal> {
+enum Opened<F, I> {
+    File(F),
+    StandardInput(I),
+}
+
+/// Files by their paths, and by `/dev/stdin` the standard input, which isn't opened: what is left of it is read, also where
+/// it is a socket, a pipe of another user or a file that was read in part. It keeps the name of the current file, in memory
+/// that it has from the beginning.
+///
+/// One file at a time is open: the one before is closed first, so where the program has no standard input none that is
+/// opened is in its place when it is read.
+#[derive(Drop)]
+pub struct FileSource<R: Files + Input + AllocGlobal> {
     files: R,
     name: String,
-    current: Option<R::File>,
+    current: Option<Opened<R::File, R::Reader>>,
     taken: u64,
     faults: u64,
 }
 
-impl<R: Files + AllocGlobal> FileSource<R> {
+impl<R: Files + Input + AllocGlobal> FileSource<R> {
     /// No file is current, and nothing has failed. The name of the current file is kept in the memory of this text; a
     /// select by a name that is longer asks for more, and without it fails, which is a fault.
     pub fn make(files: R, name: String) -> Self
@@ -34,9 +49,18 @@ impl<R: Files + AllocGlobal> FileSource<R> {
             faults: 0,
         }
     }
+
+    /// What the name stands for, if it can be read.
+    fn open(&self, name: &str) -> io::Result<Opened<R::File, R::Reader>> {
+        if name == STANDARD_INPUT {
+            Ok(Opened::StandardInput(self.files.reader()))
+        } else {
+            Ok(Opened::File(fs::open(&self.files, name)?))
+        }
+    }
 }
 
-impl<R: Files + AllocGlobal> Source for FileSource<R> {
+impl<R: Files + Input + AllocGlobal> Source for FileSource<R> {
     ghost held = { λ _. None };
 
     ghost left = { λ _. None };
@@ -52,14 +76,14 @@ impl<R: Files + AllocGlobal> Source for FileSource<R> {
     fn select(&mut self, name: &str) -> Result<(), Failed> {
         self.taken = 0;
         self.name.clear();
-        match (self.name.push_str(name), fs::open(&self.files, name)) {
-            (Ok(()), Ok(file)) => {
-                self.current = Some(file);
+        self.current = None;
+        match (self.name.push_str(name), self.open(name)) {
+            (Ok(()), Ok(opened)) => {
+                self.current = Some(opened);
                 Ok(())
             }
             _ => {
                 self.name.clear();
-                self.current = None;
                 self.faults = self.faults.saturating_add(1);
                 Err(Failed)
             }
@@ -67,18 +91,20 @@ impl<R: Files + AllocGlobal> Source for FileSource<R> {
     }
 
     fn take(&mut self, buf: &mut [u8]) -> Result<usize, Failed> {
-        match &mut self.current {
+        let read = match &mut self.current {
             None => unreachable!(),
-            Some(file) => match file.read(buf) {
-                Ok(count) => {
-                    self.taken = self.taken.saturating_add(count as u64);
-                    Ok(count)
-                }
-                Err(_) => {
-                    self.faults = self.faults.saturating_add(1);
-                    Err(Failed)
-                }
-            },
+            Some(Opened::File(file)) => file.read(buf),
+            Some(Opened::StandardInput(input)) => input.read(buf),
+        };
+        match read {
+            Ok(count) => {
+                self.taken = self.taken.saturating_add(count as u64);
+                Ok(count)
+            }
+            Err(_) => {
+                self.faults = self.faults.saturating_add(1);
+                Err(Failed)
+            }
         }
     }
 }

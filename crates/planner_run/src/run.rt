@@ -15,6 +15,7 @@ ghost use Rattle.check_base.specs.Checks.{check_dialogue};
 ghost use Rattle.check_command.specs.Promise.{CheckPromise};
 ghost use Rattle.certify_command.specs.Promise.{CertifyPromise};
 ghost use Rattle.plan_command.specs.Promise.{PlanPromise};
+ghost use Rattle.pack_command.specs.Names.{PackNames};
 ghost use Rattle.pack_command.specs.Promise.{PackPromise};
 ghost use Rattle.upgrade_command.specs.Promise.{UpgradePromise};
 ghost use Rattle.emit_command.specs.Promise.{EmitPromise};
@@ -249,7 +250,7 @@ pub fn run<S: Source, K: Sink>(
     ensures plan { (files : Files) (names : UpdateNames) → S.held source.old ≡ Some files
         → asked_command (map string_bytes words.now) ≡ Some (Plan names)
         → PlanPromise files names (K.written sink.old) (K.written sink.new) result }
-    ensures pack { (files : Files) (names : UpdateNames) → S.held source.old ≡ Some files
+    ensures pack { (files : Files) (names : PackNames) → S.held source.old ≡ Some files
         → asked_command (map string_bytes words.now) ≡ Some (Pack names)
         → PackPromise files names (K.written sink.old) (K.written sink.new) result }
     ensures upgrade { (files : Files) (names : PlanNames) → S.held source.old ≡ Some files
