@@ -18,7 +18,8 @@ use two_phase::laws::depth_rounds_count;
 /// A run whose answer, where it is settled, is that of the command's dialogue over the files keeps the promise of `pack`.
 pub fn pack_promised()
     ensures { (files : Files) (names : PackNames) (old new : Option (List ℕ)) (result : Status)
-        → (IsComplete result → Answered (IsPacked names.kind) files (reading_update names.files) old new result)
+        → (IsComplete result
+        → Answered (IsPacked names.kind) files (reading_update names.files) old new result)
         → PackPromise files names old new result }
 {
     searches_end_once();

@@ -34,12 +34,11 @@ fn is_answered(
     alloc: Global,
     planner: Planner,
     texts: &UpdateTexts<'_>,
-    want: Status,
-    text: &[u8],
+    want: (Status, &[u8]),
     row: &str,
 ) {
     let answer = answer_by(rt, alloc, planner, texts, 0);
-    assert!(rt; answer.is(want, text), "{row}");
+    assert!(rt; answer.is(want.0, want.1), "{row}");
 }
 
 #[test]
@@ -245,8 +244,7 @@ tried: [[{"do":"replace","dst":"10.0.0.0/24","out":1,"priority":100,"switch":"w"
             rt.alloc(),
             Planner::PackOrdered,
             &texts,
-            want,
-            text,
+            (want, text),
             row,
         );
     }
@@ -336,7 +334,7 @@ tried: [[{"do":"replace","dst":"10.0.0.0/24","out":1,"priority":100,"switch":"w"
     ];
     let alloc = rt.alloc();
     for (row, texts, want, text) in rows {
-        is_answered(&rt, alloc, Planner::PackTwoPhase, &texts, want, text, row);
+        is_answered(&rt, alloc, Planner::PackTwoPhase, &texts, (want, text), row);
     }
     let line = b"accepted: two-phase, 8 rounds, 6 classes\n";
     is_accepted_of(
