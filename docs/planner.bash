@@ -1,7 +1,7 @@
 # Completes the words of the planner in bash:  . docs/planner.bash
 
 _planner() {
-    local files=0
+    local files=0 choices=
     COMPREPLY=()
     if [ "$COMP_CWORD" -eq 1 ]; then
         mapfile -t COMPREPLY < <(compgen -W "config paths trace plan pack check certify explain simulate replay tables upgrade import emit drive serve sample collect apply update show diff links policy route page from-ofctl from-mininet from-graphml to-ofctl install --help --version" -- "${COMP_WORDS[1]}")
@@ -10,6 +10,7 @@ _planner() {
     if [[ ${COMP_WORDS[COMP_CWORD]} == -* ]]; then
         local options="--help -o --strict --quiet --json"
         case ${COMP_WORDS[1]} in
+            pack) options="--wait $options" ;;
             collect) options="--switches --listen --patience $options" ;;
             apply) options="--switches --listen --wait --ask --patience --resume --back --repair --take-over --no-mark $options" ;;
             diff) options="--json $options" ;;
@@ -29,6 +30,13 @@ _planner() {
         check | certify | explain | simulate | serve | page) files=5 ;;
         drive | apply) files=6 ;;
     esac
+    # A word of which there are few stands behind the names of files, or earlier behind a folder, where its beginning is typed.
+    case ${COMP_WORDS[1]} in
+        pack) choices="ordered two-phase" ;;
+    esac
+    if [ "$COMP_CWORD" -eq $((files + 2)) ] || [ "$COMP_CWORD" -gt 2 ] && [ -n "${COMP_WORDS[COMP_CWORD]}" ]; then
+        mapfile -t COMPREPLY < <(compgen -W "$choices" -- "${COMP_WORDS[COMP_CWORD]}")
+    fi
     # Names of files are completed by bash itself, which does so where there is no answer; behind the last file there is nothing to complete.
     if [ "$COMP_CWORD" -gt $((files + 1)) ]; then
         compopt +o default 2>/dev/null

@@ -75,10 +75,12 @@ def completion():
     options = " ".join(flag.split()[0] for flag, _ in words.OPTIONS if flag != "--version")
     names = " ".join([*(command.name for command in words.COMMANDS), "--help", "--version"])
     own = "".join(f'            {name}) options="{flags_of(name)} $options" ;;\n' for name in words.OWN_OPTIONS)
+    chosen = "".join(f'        {command.name}) choices="{" ".join(words.CHOICES[word])}" ;;\n' for command in words.COMMANDS for word in command.words()[0]
+                     if word in words.CHOICES)
     return f"""# Completes the words of the planner in bash:  . docs/planner.bash
 
 _planner() {{
-    local files=0
+    local files=0 choices=
     COMPREPLY=()
     if [ "$COMP_CWORD" -eq 1 ]; then
         mapfile -t COMPREPLY < <(compgen -W "{names}" -- "${{COMP_WORDS[1]}}")
@@ -93,6 +95,12 @@ _planner() {{
     fi
     case ${{COMP_WORDS[1]}} in
 {cases}    esac
+    # A word of which there are few stands behind the names of files, or earlier behind a folder, where its beginning is typed.
+    case ${{COMP_WORDS[1]}} in
+{chosen}    esac
+    if [ "$COMP_CWORD" -eq $((files + 2)) ] || [ "$COMP_CWORD" -gt 2 ] && [ -n "${{COMP_WORDS[COMP_CWORD]}}" ]; then
+        mapfile -t COMPREPLY < <(compgen -W "$choices" -- "${{COMP_WORDS[COMP_CWORD]}}")
+    fi
     # Names of files are completed by bash itself, which does so where there is no answer; behind the last file there is nothing to complete.
     if [ "$COMP_CWORD" -gt $((files + 1)) ]; then
         compopt +o default 2>/dev/null

@@ -20,6 +20,10 @@ IN_FOLDER = {"TOPO": "topology.json", "CONFIG": "old.json", "OLD": "old.json", "
              "SCHEDULE": "schedule", "REPLIES": "replies", "INPUT": "update", "PREFIXES": "prefixes"}
 
 
+# Words that are no names of files, and what each may be.
+CHOICES = {"KIND": ("ordered", "two-phase")}
+
+
 class Command:
     """A command: its name, the words behind it, what it answers in a line, and in more words."""
 
@@ -54,11 +58,14 @@ PROVED = [
             "entries are wanting",
             "Writes a certified plan in format 2: one change a round where a search for safe changes finds them, otherwise a two-phase plan, which marks "
             "packets with tags. Where neither can be had it says which tags or table entries are wanting, and which rounds were tried."),
-    Command("pack", "TOPO OLD NEW POLICY",
-            "a certified plan of few rounds: each takes every change that can still stand in it; or a two-phase plan, where that has fewer rounds",
+    Command("pack", "TOPO OLD NEW POLICY [KIND]",
+            "a certified plan of few rounds: each takes every change that can still stand in it; or a two-phase plan, where the other has more than twice as "
+            "many rounds; KIND is `ordered` or `two-phase`, for a plan of that kind",
             "Writes a certified plan in format 2 as `plan` does, but of few rounds: each round takes every change that can still be made beside those that it "
-            "took before, in whatever order. Where that ends at no plan it is the one of `plan`'s search. A two-phase plan is written where it has fewer rounds "
-            "than that, or there is none; with `\"tags\": []` in the topology it never is. The refusals are those of `plan`."),
+            "took before, in whatever order. Where that ends at no plan it is the one of `plan`'s search. A two-phase plan fills tables and changes every "
+            "switch, so it is written only where the other has more than twice as many rounds, or there is no other. With KIND `ordered` it never is, and the "
+            "answer may be `no ordered plan`; with `two-phase` no other is. The other refusals are those of `plan`. Where the error stream is a terminal, it is "
+            "said what a plan of the other kind would cost, with the wait of `--wait SECONDS` before each round (2 s)."),
     Command("check", "TOPO OLD NEW POLICY PLAN",
             "whether a plan, from any source, is certified; otherwise the first reason why it isn't",
             "Says whether the plan is certified. Then in every run of it, in any order of the changes of a round and any interleaving with the packets, no "
@@ -210,6 +217,7 @@ CONNECTIONS = [("--switches FILE", "which switches there are: a line for each, i
 CARRYING_OUT = [("--wait SECONDS", "how long after a round was settled the next one begins (2 s)"), ("--ask", "a round begins when the operator presses Enter"),
                 ("--patience SECONDS", "how long a switch may be away, or take for an answer (60 s)")]
 OWN_OPTIONS = {
+    "pack": [("--wait SECONDS", "how long it is waited before each round, for what is said of the time (2 s)")],
     "collect": [*CONNECTIONS, ("--patience SECONDS", "how long a switch may take (10 s)")],
     "apply": [*CONNECTIONS, *CARRYING_OUT, ("--resume", "goes on with the record of an earlier run"),
               ("--back", "goes on with it backwards: turns the round that runs, and undoes those that are settled, one by one, up to OLD"),

@@ -28,6 +28,13 @@ class Meaning(NamedTuple):
     letter: str        # what a definition calls a value of the type
 
 
+class Given(NamedTuple):
+    """A word that is no file's, as its command understands it."""
+    name: str
+    type: str          # and where it stands, if it is none of the library's
+    type_in: str = ""
+
+
 class Row(NamedTuple):
     name: str
     words: str         # one of WORDS
@@ -36,7 +43,7 @@ class Row(NamedTuple):
     answer_in: str
     promise_in: str = ""   # where the promise stands, if not in the crate of the command
     kind: str = "answers"  # "serves" where lines are answered one by one, "reads_none" where no file is read
-    before: tuple = ()     # what the answer depends on besides, of the names of the files: numbers
+    before: tuple = ()     # what the answer depends on besides, of the names of the files: a `Given` for each
     files_at: str = ""     # where among the names those of the dialogue stand, if there are others
     comment: str = ""      # what stands above its promise
 
@@ -45,6 +52,7 @@ WORDS = {
     "config": Words("config_command", "config_names", "ConfigNames<'a>", "config_command.Names", "config", "ConfigNames", "names_in", "names_seen"),
     "check": Words("check_base", "check_names", "CheckNames<'a>", "check_base.Names", "check", "CheckNames", "names_in", "names_seen"),
     "update": Words("command_base", "update_names", "UpdateNames<'a>", "command_base.Names", "base", "UpdateNames", "update_names_in", "names_seen"),
+    "pack": Words("pack_command", "pack_names", "PackNames<'a>", "pack_command.Names", "pack", "PackNames", "names_in", "names_seen"),
     "plan": Words("command_base", "plan_names", "PlanNames<'a>", "command_base.Names", "base", "PlanNames", "plan_names_in", "plan_names_seen"),
     "replay": Words("replay_command", "replay_names", "ReplayNames<'a>", "replay_command.Names", "replay", "ReplayNames", "names_in", "names_seen"),
     "trace": Words("trace_command", "trace_names", "TraceNames<'a>", "trace_command.Names", "trace", "TraceNames", "names_in", "names_seen"),
@@ -72,13 +80,13 @@ ROWS = (
     Row("check", "check", "check", "IsCheckAnswer", "check_command.Checks", comment="The headline is the field `keeps` of this promise."),
     Row("certify", "check", "check", "IsCertifyAnswer", "certify_command.Answers"),
     Row("plan", "update", "update", "IsPlanned", "plan_command.Planned"),
-    Row("pack", "update", "update", "IsPacked", "pack_command.Packed"),
+    Row("pack", "pack", "update", "IsPacked", "pack_command.Packed", before=(Given("kind", "PackKind", "pack_command.declared.names.PackKind"),), files_at="files"),
     Row("upgrade", "plan", "plan", "IsUpgradeAnswer", "upgrade_command.Texts"),
     Row("emit", "plan", "plan", "IsEmitAnswer", "emit_command.Answers"),
     Row("replay", "replay", "replay", "IsReplayAnswer", "replay_command.Replayed"),
     Row("tables", "replay", "replay", "IsTablesAnswer", "tables_command.Listed"),
     Row("trace", "trace", "trace", "IsTraceAnswer", "trace_command.Traced"),
-    Row("simulate", "simulate", "check", "IsSimulateAnswer", "simulate_command.Simulated", before=("start", "count"), files_at="check"),
+    Row("simulate", "simulate", "check", "IsSimulateAnswer", "simulate_command.Simulated", before=(Given("start", "ℕ"), Given("count", "ℕ")), files_at="check"),
     Row("explain", "check", "check", "IsExplainAnswer", "explain_command.Explained"),
     Row("import", "import", "import", "IsImportAnswer", "import_command.Imported"),
     Row("drive", "drive", "drive", "IsDriveAnswer", "drive_command.Driven"),

@@ -47,7 +47,8 @@ def fields(row, rows=ROWS):
     """Returns what the words of a template mean for a command."""
     words, means, name = WORDS[row.words], MEANINGS[row.means], row.name.title()
     reads = row.kind != "reads_none"
-    of_names = [f"names.{it}" for it in row.before]
+    given = [it.name for it in row.before]
+    of_names = [f"names.{it}" for it in given]
     return {
         "name": row.name,
         "Name": name,
@@ -59,15 +60,15 @@ def fields(row, rows=ROWS):
         "files_in": f"{words.alias}.{words.files_in}",
         "files": "names" if reads else words.seen.partition(".")[0],
         "files_seen": f"({words.alias}.{words.seen} names)" if reads else words.seen,
-        "before": "ℕ → " * len(row.before),
+        "before": "".join(f"{it.type} → " for it in row.before),
         "Meaning": means.meaning,
         "m": means.letter,
-        "vars": "".join(f"{it} " for it in row.before),
+        "vars": "".join(f"{it} " for it in given),
         "given": "".join(f"{it} " for it in of_names),
         "IsAnswer": row.answer,
         "Answer": applied(row.answer, of_names),
         "Of": applied(f"Of{name}", of_names),
-        "OfIn": applied(f"Of{name}", [f"c.in-{name}.{it}" for it in of_names]),
+        "OfIn": applied(f"Of{name}", [f"c.in-{name}.names.{it}" for it in given]),
         "dialogue": f"{means.dialogue} names{'.' + row.files_at if row.files_at else ''}",
         "comment": f"\n    // {row.comment}\n" if row.comment else "",
     }
@@ -97,6 +98,7 @@ def definitions(rows):
     words, means = [WORDS[it.words] for it in rows], [MEANINGS[it.means] for it in rows if it.means]
     aliases = dict.fromkeys(f"use {module(it.module)} as {it.alias}" for it in words)
     pairs = [pair for it in means for pair in ((it.meaning_in, it.meaning), (it.dialogue_in, it.dialogue))]
+    pairs += [(it.type_in, it.type) for row in rows for it in row.before if it.type_in]
     return "\n".join([*aliases, imports(pairs + [(it.answer_in, it.answer) for it in rows])])
 
 

@@ -10,6 +10,11 @@ def counts():
     return {command.name: sum(word in words.FILES or word == "FILE" for word in command.words()[0]) for command in words.COMMANDS}
 
 
+def chosen_words():
+    """What the words may be that are no names of files and of which there are few, by their command."""
+    return {command.name: words.CHOICES[word] for command in words.COMMANDS for word in command.words()[0] if word in words.CHOICES}
+
+
 def short(text):
     """The beginning of an answer, up to its first stop, which a list of commands has room for."""
     for stop in (";", ":", ", "):
@@ -25,6 +30,7 @@ def zsh():
     listed = "\n".join(f"        {quoted(command.name + ':' + short(command.answer))}" for command in words.COMMANDS)
     own = "\n".join(f"            {name}) compadd -- {flags_of(name)} ;;" for name in words.OWN_OPTIONS)
     without = " | ".join(name for name, count in counts().items() if not count) or "none"
+    chosen = "\n".join(f"        {name}) compadd -- {' '.join(choices)}; _files ;;" for name, choices in chosen_words().items())
     return f"""#compdef planner
 # Completes the words of the planner in zsh.
 
@@ -46,6 +52,7 @@ _planner() {{
     fi
     case ${{words[2]}} in
         {without}) _message 'a number or a word' ;;
+{chosen}
         *) _files ;;
     esac
 }}
@@ -63,5 +70,6 @@ def fish():
     lines += [f"complete -c planner -n {quoted(first)} -l {flag.lstrip('-')}" for flag in FLAGS]
     lines += [f"complete -c planner -n {quoted('__fish_seen_subcommand_from ' + name)} -l {flag.split()[0].lstrip('-')} -d {quoted(short(text))}"
               for name, options in words.OWN_OPTIONS.items() for flag, text in options]
+    lines += [f"complete -c planner -n {quoted('__fish_seen_subcommand_from ' + name)} -a {quoted(' '.join(choices))}" for name, choices in chosen_words().items()]
     lines.append(f"complete -c planner -n {quoted('__fish_seen_subcommand_from ' + with_files)} -F")
     return "\n".join(lines) + "\n"

@@ -1,5 +1,5 @@
 -- What a run of `pack` says of the files of a source that tells.
-use Rattle.std.proofs.Common.{◌≡◌, ◌≢◌, ℕ, ◌+◌, ◌*◌, ◌≤◌, false, true, List, [], ◌∷◌, ◌++◌, length, refl, sym, ap, ◌∙◌, inl, inr, arith}
+use Rattle.std.proofs.Common.{◌≡◌, ◌≢◌, ◌⊎◌, ℕ, ◌+◌, ◌*◌, ◌≤◌, false, true, List, [], ◌∷◌, ◌++◌, length, refl, sym, ap, ◌∙◌, subst, inl, inr, arith}
 use Rattle.std.specs.declared.option.Option.{Option}
 use Rattle.std.specs.List.{AllByRecursion}
 use Rattle.file_access.specs.Outside.{Files}
@@ -20,7 +20,7 @@ use Rattle.packed_trees.specs.Bounds.{AreBounds}
 use Rattle.round_planner.specs.Search.{single_rounds}
 use Rattle.round_planner.proofs.StandingLaws.{length_rounds}
 use Rattle.round_planner.proofs.UserTables.{user_start, remaining_count}
-use Rattle.round_planner.specs.Updates.{update_target, bare_task}
+use Rattle.round_planner.specs.Updates.{update_count, update_target, bare_task}
 use Rattle.topology.specs.Networks.{Network}
 use Rattle.two_phase.specs.Depths.{depth_rounds, depth_count}
 use Rattle.two_phase.specs.Laws.{FitsTwoPhase}
@@ -31,14 +31,20 @@ use Rattle.command_base.specs.Answers.{Answer}
 use Rattle.command_base.specs.Readings.{reading_update}
 use Rattle.command_base.specs.Runs.{IsComplete, Answered}
 use Rattle.command_base.specs.Updates.{FilesMeanUpdate}
-use Rattle.command_base.proofs.JudgementLaws.{refusals}
+use Rattle.command_base.proofs.JudgementLaws.{IsAnswerOn, refusals}
 use Rattle.command_base.proofs.RunLaws.{settled_done}
-use Rattle.plan_command.specs.NewPlans.{FilesMeanTrees, FilesMeanGoodEnds, IsStuck}
+use Rattle.plan_command.specs.Ends.{BothEndsAreGood, IsEndLine}
+use Rattle.plan_command.specs.NewPlans.{FilesMeanTrees, FilesMeanGoodEnds}
+use Rattle.plan_command.specs.Planned.{SaysOfGoodEnds, SaysPlanOf, SaysWhyNone}
+use Rattle.plan_command.proofs.PlannedLaws.{one_searched}
 use Rattle.plan_command.proofs.UpdateAnswers as law
-use Rattle.plan_command.proofs.UpdateAnswers.{AreApart, IsOneStuck, AnswersUpdate, answers_by, plan_status, none_fits}
-use Rattle.pack_command.specs.Chosen.{IsPackedPlan, IsPackingStuck, IsOrderedPlan, HasNoOrderedPlan, phased_plan, phased_count, IsPackPlan}
-use Rattle.pack_command.specs.Packed.{SaysNoPlan, PacksInFewRounds, IsPacked}
-use Rattle.pack_command.specs.PackFiles.{IsPackingOrdered, EndsInOrder, HasPackPlan, FilesPackNoTags, FilesPackNoRoom, AreFull}
+use Rattle.plan_command.proofs.UpdateAnswers.{AreApart, IsOneStuck, IsOneTried, AnswersUpdate, SaysOfEnds, answer_on, answers_as, none_fits, trees_good}
+use Rattle.pack_command.specs.declared.names.PackKind.{PackKind}
+use Rattle.pack_command.specs.declared.names.PackKind.TheVariants as pack_kind
+use Rattle.pack_command.specs.Chosen.{IsPackedPlan, IsPackingOrdered, IsPackingStuck, IsOrderedPlan, HasOrderedPlan, HasNoOrderedPlan, AreTriedFor, phased_plan, phased_count, IsPackPlan}
+use Rattle.pack_command.specs.Names.{PackNames}
+use Rattle.pack_command.specs.Packed.{SaysNoPlan, PacksInFewRounds, IsPacked, no_ordered_lines}
+use Rattle.pack_command.specs.PackFiles.{EndsInOrder, HasPackPlan, IsPackable, IsPackRefusal, AreFull}
 use Rattle.pack_command.specs.Promise.{PackPromise}
 use Rattle.pack_command.proofs.StandLaws.{tables_of_user}
 
@@ -80,21 +86,30 @@ PhasedIsCounted = (net : Network) (old new : List (List Rule)) → length (depth
 pub phased_same : PhasedIsCounted → (u : Update) (p : Plan) (tried : List (List Change)) → p ≡ phased_plan u tried → length p.rounds ≡ phased_count u
 phased_same counted u p tried is = ap (λ (q : Plan). length q.rounds) is ∙ counted u.net u.old u.new
 
+phased_kind : (u : Update) (p : Plan) (tried : List (List Change)) → p ≡ phased_plan u tried → is_two_phase p.evidence ≡ true
+phased_kind u p tried is = ap (λ (q : Plan). is_two_phase q.evidence) is
+
 not_phased : (u : Update) (p : Plan) (tried : List (List Change)) → p ≡ phased_plan u tried → is_two_phase p.evidence ≢ false
-not_phased u p tried is = λ ordered. let two : is_two_phase p.evidence ≡ true = ap (λ (q : Plan). is_two_phase q.evidence) is in cc
+not_phased u p tried is = λ ordered. let two = phased_kind u p tried is in cc
 
 -- an ordered plan is packed, or that of a search
 ordered_ends : (u : Update) (p : Plan) → IsOrderedPlan u p → EndsInOrder u
 ordered_ends u p (inl packed) = inl (record { rounds = p.rounds; ends = packed.packed })
 ordered_ends u p (inr (stuck, search)) = inr (record { changes = search.changes; ends = search.searched.ends })
 
-has_pack : (u : Update) (p : Plan) → IsPackPlan u p → HasPackPlan u
-has_pack u p (inl short) = inl (ordered_ends u p short.ordered)
-has_pack u p (inr (inl phased)) = inr phased.fits
-has_pack u p (inr (inr only)) = inr only.fits
+ordered_kind : (u : Update) (p : Plan) → IsOrderedPlan u p → is_two_phase p.evidence ≡ false
+ordered_kind u p (inl packed) = ap is_two_phase packed.evidence_is
+ordered_kind u p (inr (stuck, search)) = ap (λ (q : Plan). is_two_phase q.evidence) search.plan_is
 
-pub few_rounds_of : PhasedIsCounted → (u : Update) (p : Plan) → FitsTwoPhase u.net u.old u.new → IsPackPlan u p → length p.rounds ≤ phased_count u
-few_rounds_of counted u p fits (inl short) = short.least fits
+has_pack : (k : PackKind) (u : Update) (p : Plan) → IsPackPlan k u p → HasPackPlan k u
+has_pack pack_kind.Any u p (inl short) = inl (ordered_ends u p short.ordered)
+has_pack pack_kind.Any u p (inr (inl phased)) = inr phased.fits
+has_pack pack_kind.Any u p (inr (inr only)) = inr only.fits
+has_pack pack_kind.Ordered u p ordered = ordered_ends u p ordered
+has_pack pack_kind.TwoPhase u p only = only.fits
+
+pub few_rounds_of : PhasedIsCounted → (u : Update) (p : Plan) → FitsTwoPhase u.net u.old u.new → IsPackPlan pack_kind.Any u p → length p.rounds ≤ 2 * phased_count u
+few_rounds_of counted u p fits (inl short) = short.few fits
 few_rounds_of counted u p fits (inr (inl phased)) = let same = phased_same counted u p [] phased.plan_is in omega (arith, same)
 few_rounds_of counted u p fits (inr (inr only)) = let same = phased_same counted u p only.tried only.plan_is in omega (arith, same)
 
@@ -104,18 +119,27 @@ module _ (apart : AreApart) (packing_apart : PackingIsApart) (u : Update) where
   order_apart (inl packing) tried none = packing_apart (update_target u) u.old packing.rounds none.packing.rounds packing.ends none.packing.ends
   order_apart (inr ordered) tried none = apart (update_target u) u.old ordered.changes none.search.changes ordered.ends none.search.ends
 
+  plan_apart : HasOrderedPlan u → (tried : List (List Change)) → ¬ HasNoOrderedPlan u tried
+  plan_apart (inl packing) tried none = order_apart (inl packing) tried none
+  plan_apart (inr (stuck, ordered)) tried none = order_apart (inr ordered) tried none
+
   -- where packing ends ordered an ordered plan is the packed one
   packed_of : IsPackingOrdered u → (p : Plan) → IsOrderedPlan u p → IsPackedPlan u p
   packed_of packing p (inl packed) = packed
   packed_of packing p (inr (stuck, search)) = absurd (packing_apart (update_target u) u.old packing.rounds stuck.rounds packing.ends stuck.ends)
 
-  pub full_of : PackedIsFull → (p : Plan) → IsPackingOrdered u → is_two_phase p.evidence ≡ false → IsPackPlan u p
-      → PacksOrdered (update_target u) u.old p.rounds × AreFull (update_target u) u.old p.rounds
-  full_of full p packing ordered (inl short) =
-      let packed = (packed_of packing p short.ordered).packed in
+  ordered_full : PackedIsFull → (p : Plan) → IsPackingOrdered u → IsOrderedPlan u p → PacksOrdered (update_target u) u.old p.rounds × AreFull (update_target u) u.old p.rounds
+  ordered_full full p packing ordered =
+      let packed = (packed_of packing p ordered).packed in
       (packed, all_full full (update_target u) u.old p.rounds packed.packed)
-  full_of full p packing ordered (inr (inl phased)) = absurd (not_phased u p [] phased.plan_is ordered)
-  full_of full p packing ordered (inr (inr only)) = absurd (not_phased u p only.tried only.plan_is ordered)
+
+  pub full_of : PackedIsFull → (k : PackKind) (p : Plan) → IsPackingOrdered u → is_two_phase p.evidence ≡ false → IsPackPlan k u p
+      → PacksOrdered (update_target u) u.old p.rounds × AreFull (update_target u) u.old p.rounds
+  full_of full pack_kind.Any p packing is (inl short) = ordered_full full p packing short.ordered
+  full_of full pack_kind.Any p packing is (inr (inl phased)) = absurd (not_phased u p [] phased.plan_is is)
+  full_of full pack_kind.Any p packing is (inr (inr only)) = absurd (not_phased u p only.tried only.plan_is is)
+  full_of full pack_kind.Ordered p packing is ordered = ordered_full full p packing ordered
+  full_of full pack_kind.TwoPhase p packing is only = absurd (not_phased u p only.tried only.plan_is is)
 
   -- where packing ends ordered, the plan has no more rounds than the packed one
   module _ (one : PackingIsOne) (rounds : List (List Change)) (ends : PacksOrdered (update_target u) u.old rounds) where
@@ -125,19 +149,21 @@ module _ (apart : AreApart) (packing_apart : PackingIsApart) (u : Update) where
     ordered_as_packed : (p : Plan) → IsOrderedPlan u p → length p.rounds ≡ length rounds
     ordered_as_packed p ordered = ap length (one (update_target u) u.old p.rounds rounds (packed_of packing p ordered).packed ends)
 
-    pub within_packed : PhasedIsCounted → (p : Plan) → IsPackPlan u p → length p.rounds ≤ length rounds
-    within_packed counted p (inl short) = let same = ordered_as_packed p short.ordered in omega (arith, same)
-    within_packed counted p (inr (inl phased)) =
+    pub within_packed : PhasedIsCounted → (k : PackKind) → k ≢ pack_kind.TwoPhase → (p : Plan) → IsPackPlan k u p → length p.rounds ≤ length rounds
+    within_packed counted pack_kind.Any other p (inl short) = let same = ordered_as_packed p short.ordered in omega (arith, same)
+    within_packed counted pack_kind.Any other p (inr (inl phased)) =
         let longer = ordered_as_packed phased.longer phased.ordered in
         let same = phased_same counted u p [] phased.plan_is in
-        let fewer = phased.fewer in
-        omega (arith, longer, same, fewer)
-    within_packed counted p (inr (inr only)) = absurd (order_apart (inl packing) only.tried only.none)
+        let many = phased.many in
+        omega (arith, longer, same, many)
+    within_packed counted pack_kind.Any other p (inr (inr only)) = absurd (order_apart (inl packing) only.tried only.are_tried)
+    within_packed counted pack_kind.Ordered other p ordered = let same = ordered_as_packed p ordered in omega (arith, same)
+    within_packed counted pack_kind.TwoPhase other p only = absurd (other refl)
 
-  pub tree_rounds_of : PhasedIsCounted → PackingIsOne → PacksInFewRounds u → (p : Plan) → IsPackPlan u p
+  pub tree_rounds_of : PhasedIsCounted → PackingIsOne → PacksInFewRounds u → (k : PackKind) → k ≢ pack_kind.TwoPhase → (p : Plan) → IsPackPlan k u p
       → (most dropped unmet : ℕ) → AreBounds (bare_task u) u.old most dropped unmet → length p.rounds ≤ most + dropped + unmet
-  tree_rounds_of counted one packs p is most dropped unmet bounds =
-      let within = within_packed one packs.rounds packs.ends counted p is in
+  tree_rounds_of counted one packs k other p is most dropped unmet bounds =
+      let within = within_packed one packs.rounds packs.ends counted k other p is in
       let few = packs.few most dropped unmet bounds in
       omega (arith, within, few)
 
@@ -150,14 +176,16 @@ module _ (apart : AreApart) (packing_apart : PackingIsApart) (u : Update) where
         let singles = length_rounds search.changes in
         omega arith
 
-    pub never_more_of : PhasedIsCounted → PackedAreFew → (p : Plan) → EndsInOrder u → IsPackPlan u p → length p.rounds ≤ length (remaining_changes u.old u.new)
-    never_more_of counted few p ends (inl short) = ordered_few few p short.ordered
-    never_more_of counted few p ends (inr (inl phased)) =
+    pub never_more_of : PhasedIsCounted → PackedAreFew → (k : PackKind) → k ≢ pack_kind.TwoPhase → (p : Plan) → EndsInOrder u → IsPackPlan k u p → length p.rounds ≤ length (remaining_changes u.old u.new)
+    never_more_of counted few pack_kind.Any other p ends (inl short) = ordered_few few p short.ordered
+    never_more_of counted few pack_kind.Any other p ends (inr (inl phased)) =
         let most = ordered_few few phased.longer phased.ordered in
         let same = phased_same counted u p [] phased.plan_is in
-        let fewer = phased.fewer in
-        omega (arith, most, same, fewer)
-    never_more_of counted few p ends (inr (inr only)) = absurd (order_apart ends only.tried only.none)
+        let many = phased.many in
+        omega (arith, most, same, many)
+    never_more_of counted few pack_kind.Any other p ends (inr (inr only)) = absurd (order_apart ends only.tried only.are_tried)
+    never_more_of counted few pack_kind.Ordered other p ends ordered = ordered_few few p ordered
+    never_more_of counted few pack_kind.TwoPhase other p ends only = absurd (other refl)
 
     -- packing ends ordered with one round at most
     record PacksOnce : Type 0 where
@@ -173,54 +201,94 @@ module _ (apart : AreApart) (packing_apart : PackingIsApart) (u : Update) where
       few = omega arith;
     }
 
-    pub one_round_of_all : PhasedIsCounted → PackingIsOne → OneIsEnough → CanStand (update_target u) u.old (remaining_changes u.old u.new) → (p : Plan) → IsPackPlan u p → length p.rounds ≤ 1
-    one_round_of_all counted one enough can p is =
+    pub one_round_of_all : PhasedIsCounted → PackingIsOne → OneIsEnough → CanStand (update_target u) u.old (remaining_changes u.old u.new) → (k : PackKind) → k ≢ pack_kind.TwoPhase → (p : Plan) → IsPackPlan k u p
+        → length p.rounds ≤ 1
+    one_round_of_all counted one enough can k other p is =
         let once = packs_once enough can (remaining_changes u.old u.new) refl in
-        let within = within_packed one once.rounds once.ends counted p is in
+        let within = within_packed one once.rounds once.ends counted k other p is in
         let few = once.few in
         omega (arith, within, few)
 
 -- ---- the answer
 
+-- where such rounds are tried before two phases, the update isn't refused
+tried_packable : (k : PackKind) (u : Update) (tried : List (List Change)) → AreTriedFor k u tried → BothEndsAreGood u → IsPackable k u
+tried_packable pack_kind.Any u tried are good = good
+tried_packable pack_kind.Ordered u tried are good = absurd are
+tried_packable pack_kind.TwoPhase u tried are good = good
+
+has_packable : (k : PackKind) (u : Update) → BothEndsAreGood u → HasPackPlan k u → IsPackable k u
+has_packable pack_kind.Any u good has = good
+has_packable pack_kind.Ordered u good has = (good, has)
+has_packable pack_kind.TwoPhase u good has = good
+
+-- where packing ends ordered there is a plan, unless two phases alone may be written
+packing_has : (k : PackKind) → k ≢ pack_kind.TwoPhase → (u : Update) → IsPackingOrdered u → HasPackPlan k u
+packing_has pack_kind.Any other u packing = inl (inl packing)
+packing_has pack_kind.Ordered other u packing = inl packing
+packing_has pack_kind.TwoPhase other u packing = absurd (other refl)
+
 module _ (apart : AreApart) (packing_apart : PackingIsApart) where
   -- where there is a plan, no cause says that there is none
-  not_none : (u : Update) (answer : Answer) → HasPackPlan u → ¬ SaysNoPlan u answer
-  not_none u answer (inl ends) v = elim v.why [
-    | inl w ↦ order_apart apart packing_apart u ends w.rounds (record { packing = v.packing; search = w.stuck })
-    | inr w ↦ order_apart apart packing_apart u ends w.rounds (record { packing = v.packing; search = w.stuck })
-  ]
-  not_none u answer (inr fits) v = none_fits u answer fits v.why
+  not_none : (k : PackKind) (u : Update) (answer : Answer) → HasPackPlan k u → ¬ SaysWhyNone (AreTriedFor k) u answer
+  not_none pack_kind.Any u answer (inl ends) v = order_apart apart packing_apart u ends v.tried v.are_tried
+  not_none pack_kind.Any u answer (inr fits) v = none_fits u v.tried answer fits v.why
+  not_none pack_kind.Ordered u answer has v = v.are_tried
+  not_none pack_kind.TwoPhase u answer fits v = none_fits u v.tried answer fits v.why
 
-  -- where packing and the search end stuck the chosen plan is that of two phases, which fits
-  stuck_fits : (u : Update) → IsPackingStuck u → IsStuck u → (p : Plan) → IsPackPlan u p → FitsTwoPhase u.net u.old u.new
-  stuck_fits u packing stuck p (inl short) =
-      absurd (order_apart apart packing_apart u (ordered_ends u p short.ordered) (single_rounds stuck.changes) (record { packing = packing; search = record { changes = stuck.changes; rounds_are = refl; ends = stuck.ends } }))
-  stuck_fits u packing stuck p (inr (inl phased)) = phased.fits
-  stuck_fits u packing stuck p (inr (inr only)) = only.fits
+  -- where rounds are tried before two phases the chosen plan is that of two phases, which fits
+  tried_fits : (k : PackKind) (u : Update) (tried : List (List Change)) → AreTriedFor k u tried → (p : Plan) → IsPackPlan k u p → FitsTwoPhase u.net u.old u.new
+  tried_fits pack_kind.Any u tried none p (inl short) = absurd (order_apart apart packing_apart u (ordered_ends u p short.ordered) tried none)
+  tried_fits pack_kind.Any u tried none p (inr (inl phased)) = phased.fits
+  tried_fits pack_kind.Any u tried none p (inr (inr only)) = only.fits
+  tried_fits pack_kind.Ordered u tried are p ordered = absurd are
+  tried_fits pack_kind.TwoPhase u tried are p only = only.fits
+
+  -- they are the only ones
+  one_tried : IsOneStuck → (k : PackKind) → IsOneTried (AreTriedFor k)
+  one_tried one pack_kind.Any u tried others none other = one_searched one u tried others none.search other.search
+  one_tried one pack_kind.Ordered u tried others are other = absurd are
+  one_tried one pack_kind.TwoPhase u tried others (inl (has, is)) (inl (too, also)) = is ∙ sym also
+  one_tried one pack_kind.TwoPhase u tried others (inl (has, is)) (inr none) = absurd (plan_apart apart packing_apart u has others none)
+  one_tried one pack_kind.TwoPhase u tried others (inr none) (inl (has, is)) = absurd (plan_apart apart packing_apart u has tried none)
+  one_tried one pack_kind.TwoPhase u tried others (inr none) (inr other) = one_searched one u tried others none.search other.search
+
+  -- what is said of an update with good ends
+  abbrev OfEnds : PackKind → Update → Answer → Type 0
+  OfEnds k u answer = SaysOfEnds (IsPackPlan k) (AreTriedFor k) (λ v said. PacksInFewRounds v) u answer
+
+  -- each part of an answer with `ordered` in its place
+  ordered_on : (u : Update) (answer : Answer) → IsPacked pack_kind.Ordered u answer
+      → IsAnswerOn (update_count u) (IsPackable pack_kind.Ordered u) (OfEnds pack_kind.Ordered u answer) (IsPackRefusal pack_kind.Ordered u) answer
+  ordered_on u answer (inl (inl many)) = inl many
+  ordered_on u answer (inl (inr v)) = inr (inr (record { few = v.few; fails = λ ok. v.fails ok.0; line = v.line; is_why = inl v.is_why; answer_is = v.answer_is }))
+  ordered_on u answer (inr says) = elim says.found [
+    | inl v ↦ inr (inl (record { few = says.few; good = says.good; found = inl v; tree = says.tree }))
+    | inr v ↦ inr (inr (record {
+      few = says.few;
+      fails = λ ok. order_apart apart packing_apart u ok.1 v.tried v.none;
+      line = no_ordered_lines u.net v.tried;
+      is_why = inr (record { good = says.good; tried = v.tried; none = v.none; text_is = refl });
+      answer_is = v.answer_is;
+    }))
+  ]
+
+  pack_on : (k : PackKind) (u : Update) (answer : Answer) → IsPacked k u answer → IsAnswerOn (update_count u) (IsPackable k u) (OfEnds k u answer) (IsPackRefusal k u) answer
+  pack_on pack_kind.Any u answer said = answer_on (IsPackPlan pack_kind.Any) (AreTriedFor pack_kind.Any) (λ v said. PacksInFewRounds v) u answer said
+  pack_on pack_kind.Ordered u answer said = ordered_on u answer said
+  pack_on pack_kind.TwoPhase u answer said = answer_on (IsPackPlan pack_kind.TwoPhase) (AreTriedFor pack_kind.TwoPhase) (λ v said. PacksInFewRounds v) u answer said
+
+  said_packable : (k : PackKind) (u : Update) (answer : Answer) → OfEnds k u answer → IsPackable k u
+  said_packable pack_kind.Any u answer says = says.good
+  said_packable pack_kind.Ordered u answer says = (says.good, elim says.found [ inl v ↦ ordered_ends u v.plan v.which | inr v ↦ absurd v.are_tried ])
+  said_packable pack_kind.TwoPhase u answer says = says.good
 
 -- ---- a run
 
 -- a settled run of `pack` over a source that tells
-abbrev AnswersPack : Files → UpdateNames → Option (List ℕ) → Option (List ℕ) → Status → Type 0
-AnswersPack files names old new result = AnswersUpdate IsPackPlan SaysNoPlan (λ v said. PacksInFewRounds v) files names old new result
-
-module _ {files : Files} {names : UpdateNames} {old new : Option (List ℕ)} {result : Status} (r : AnswersPack files names old new result) where
-  -- where no plan was written packing ended stuck
-  packing_stuck : (u : Update) → FilesMeanGoodEnds files names u → result ≢ status.Done → IsPackingStuck u
-  packing_stuck u good other = elim (law.of_good r u good).found [
-    | inl v ↦ absurd (other (sym r.judged.run.status_is ∙ plan_status u r.judged.run.answer v.plan v.says))
-    | inr v ↦ v.packing
-  ]
-
-  no_tags : result ≡ status.TooFewTags → FilesPackNoTags files names
-  no_tags is = let lack = law.lack_tags r is in record { lack = lack; packing = packing_stuck lack.update lack.mean (λ e. cc) }
-
-  no_room : result ≡ status.TooSmall → FilesPackNoRoom files names
-  no_room is = let lack = law.lack_room r is in record { lack = lack; packing = packing_stuck lack.update lack.mean (λ e. cc) }
-
-  -- on an update of destination trees packing ends ordered
-  trees_packed : (u : Update) → FilesMeanTrees files names u → IsPackingOrdered u
-  trees_packed u trees = let packs = law.of_trees r u trees in record { rounds = packs.rounds; ends = packs.ends }
+abbrev AnswersPack : Files → PackNames → Option (List ℕ) → Option (List ℕ) → Status → Type 0
+AnswersPack files names old new result =
+    AnswersUpdate (IsPackable names.kind) (IsPackRefusal names.kind) (IsPackPlan names.kind) (AreTriedFor names.kind) (λ v said. PacksInFewRounds v) files names.files old new result
 
 -- the configurations of an update that files mean are those of a user
 old_user_of : (files : Files) (names : UpdateNames) (u : Update) → FilesMeanUpdate files names u → IsUserConfig u.net u.old
@@ -229,35 +297,57 @@ old_user_of files names u mean = configuration_shown u.net mean.old_is.bytes u.o
 new_user_of : (files : Files) (names : UpdateNames) (u : Update) → FilesMeanUpdate files names u → IsUserConfig u.net u.new
 new_user_of files names u mean = configuration_shown u.net mean.new_is.bytes u.new mean.new_is.means
 
-pub promised : (files : Files) (names : UpdateNames) (old new : Option (List ℕ)) (result : Status) → AreApart → IsOneStuck → PackingIsApart → PackingIsOne → PackedIsFull → OneIsEnough → PackedAreFew → PhasedIsCounted
-    → (IsComplete result → Answered IsPacked files (reading_update names) old new result) → PackPromise files names old new result
+pub promised : (files : Files) (names : PackNames) (old new : Option (List ℕ)) (result : Status) → AreApart → IsOneStuck → PackingIsApart → PackingIsOne → PackedIsFull → OneIsEnough → PackedAreFew → PhasedIsCounted
+    → (IsComplete result → Answered (IsPacked names.kind) files (reading_update names.files) old new result) → PackPromise files names old new result
 promised files names old new result apart one packing_apart packing_one full enough few counted answered =
+    let k : PackKind = names.kind in
     let runs : IsComplete result → AnswersPack files names old new result =
-    λ settled. answers_by IsPackPlan SaysNoPlan (λ v said. PacksInFewRounds v) files names old new result (λ u answer none. none.why) (answered settled) in
-    let done_at : IsComplete result → (u : Update) → FilesMeanGoodEnds files names u → HasPackPlan u → result ≡ status.Done =
-    λ settled. law.done_at (runs settled) HasPackPlan has_pack (not_none apart packing_apart) in
+    λ settled. answers_as (SaysNoPlan k) (IsPackable k) (IsPackRefusal k) (pack_on apart packing_apart k) (said_packable apart packing_apart k) (answered settled) in
+    let none : (u : Update) (answer : Answer) → HasPackPlan k u → ¬ SaysWhyNone (AreTriedFor k) u answer = not_none apart packing_apart k in
+    let done_at : IsComplete result → (u : Update) → FilesMeanGoodEnds files names.files u → HasPackPlan k u → result ≡ status.Done =
+    λ settled. law.done_at (runs settled) (HasPackPlan k) (has_pack k) (has_packable k) none in
     record {
-      done = λ settled. law.done (runs settled) HasPackPlan has_pack (not_none apart packing_apart);
-      wherever = λ settled h. done_at settled h.update h.mean (elim h.has [ inl ordered ↦ inl (inr ordered) | inr (stuck, fits) ↦ inr fits ]);
+      done = λ settled. law.done (runs settled) (HasPackPlan k) (has_pack k) (has_packable k) none;
+      wherever = λ any settled h. done_at settled h.update h.mean
+          (subst (λ x. HasPackPlan x h.update) (sym any) (elim h.has [ inl ordered ↦ inl (inr ordered) | inr (stuck, fits) ↦ inr fits ]));
       writes = λ u mean is. law.writes (runs (settled_done _ is)) is u mean;
       keeps = λ before u p told is mean text. law.keeps (runs (settled_done _ is)) before told is u p mean text;
       checked = λ others before plan text told is there within beside. law.checked (runs (settled_done _ is)) before told is others plan text there within beside;
-      never_more = λ before u p told is mean text ends.
-          never_more_of apart packing_apart u (old_user_of files names u mean) (new_user_of files names u mean) counted few p ends (law.which_of (runs (settled_done _ is)) before told is u p mean text);
-      few_rounds = λ before u p told is mean text fits. few_rounds_of counted u p fits (law.which_of (runs (settled_done _ is)) before told is u p mean text);
+      never_more = λ other before u p told is mean text ends.
+          never_more_of apart packing_apart u (old_user_of files names.files u mean) (new_user_of files names.files u mean) counted few k other p ends (law.which_of (runs (settled_done _ is)) before told is u p mean text);
+      few_rounds = λ any before u p told is mean text fits.
+          few_rounds_of counted u p fits (subst (λ x. IsPackPlan x u p) any (law.which_of (runs (settled_done _ is)) before told is u p mean text));
+      phased_rounds = λ two before u p told is mean text.
+          let only = subst (λ x. IsPackPlan x u p) two (law.which_of (runs (settled_done _ is)) before told is u p mean text) in
+          phased_same counted u p only.tried only.plan_is;
+      kind_ordered = λ ordered before u p told is mean text.
+          ordered_kind u p (subst (λ x. IsPackPlan x u p) ordered (law.which_of (runs (settled_done _ is)) before told is u p mean text));
+      kind_two_phase = λ two before u p told is mean text.
+          let only = subst (λ x. IsPackPlan x u p) two (law.which_of (runs (settled_done _ is)) before told is u p mean text) in
+          phased_kind u p only.tried only.plan_is;
       full = λ before u p told is mean text packing ordered.
-          full_of apart packing_apart u full p packing ordered (law.which_of (runs (settled_done _ is)) before told is u p mean text);
-      one_round = λ before u p told is mean text can.
-          one_round_of_all apart packing_apart u (old_user_of files names u mean) (new_user_of files names u mean) counted packing_one enough can p (law.which_of (runs (settled_done _ is)) before told is u p mean text);
+          full_of apart packing_apart u full k p packing ordered (law.which_of (runs (settled_done _ is)) before told is u p mean text);
+      one_round = λ other before u p told is mean text can.
+          one_round_of_all apart packing_apart u (old_user_of files names.files u mean) (new_user_of files names.files u mean) counted packing_one enough can k other p
+          (law.which_of (runs (settled_done _ is)) before told is u p mean text);
       tree = λ settled u trees.
-          let packing = trees_packed (runs settled) u trees in
-          (done_at settled u (law.trees_good (runs settled) u trees) (inl (inl packing)), packing);
-      tree_rounds = λ before u p told is trees text most dropped unmet bounds.
-          tree_rounds_of apart packing_apart u counted packing_one (law.of_trees (runs (settled_done _ is)) u trees) p
-          (law.which_of (runs (settled_done _ is)) before told is u p trees.mean text) most dropped unmet bounds;
+          let packs = (runs settled).of_trees u trees in
+          let packing : IsPackingOrdered u = record { rounds = packs.rounds; ends = packs.ends } in
+          (λ other. done_at settled u (trees_good u trees) (packing_has k other u packing), packing);
+      tree_rounds = λ other before u p told is trees text most dropped unmet bounds.
+          let run = runs (settled_done _ is) in
+          tree_rounds_of apart packing_apart u counted packing_one (run.of_trees u trees) k other p (law.which_of run before told is u p trees.mean text) most dropped unmet bounds;
       refusals = refusals (λ settled. (runs settled).judged);
-      too_few = λ settled. (λ is. no_tags (runs settled) is, λ h. law.too_few (runs settled) h.lack (stuck_fits apart packing_apart h.lack.update h.packing h.lack.stuck));
-      too_few_lines = λ settled h. law.too_few_written (runs settled) h.lack (stuck_fits apart packing_apart h.lack.update h.packing h.lack.stuck) one;
-      too_small = λ settled. (λ is. no_room (runs settled) is, λ h. law.too_small (runs settled) h.lack (stuck_fits apart packing_apart h.lack.update h.packing h.lack.stuck));
-      too_small_lines = λ settled h. law.too_small_written (runs settled) h.lack (stuck_fits apart packing_apart h.lack.update h.packing h.lack.stuck) one;
+      too_few = λ settled. (
+        λ is. law.lack_tags (runs settled) is,
+        λ h. law.too_few (runs settled) h (tried_packable k h.update h.tried h.are_tried h.mean.good) (tried_fits apart packing_apart k h.update h.tried h.are_tried),
+      );
+      too_few_lines = λ settled h.
+          law.too_few_written (runs settled) h (tried_packable k h.update h.tried h.are_tried h.mean.good) (tried_fits apart packing_apart k h.update h.tried h.are_tried) (one_tried apart packing_apart one k);
+      too_small = λ settled. (
+        λ is. law.lack_room (runs settled) is,
+        λ h. law.too_small (runs settled) h (tried_packable k h.update h.tried h.are_tried h.mean.good) (tried_fits apart packing_apart k h.update h.tried h.are_tried),
+      );
+      too_small_lines = λ settled h.
+          law.too_small_written (runs settled) h (tried_packable k h.update h.tried h.are_tried h.mean.good) (tried_fits apart packing_apart k h.update h.tried h.are_tried) (one_tried apart packing_apart one k);
     }

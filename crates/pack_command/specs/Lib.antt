@@ -1,3 +1,4 @@
+pub mod Names
 pub mod Chosen
 pub mod Packed
 pub mod PackFiles

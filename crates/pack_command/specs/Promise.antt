@@ -1,5 +1,5 @@
 -- What a run of `pack` promises over the files of a source that tells.
-use Rattle.std.specs.Prelude.{◌≡◌, ◌↔◌, ◌≤◌, ℕ, ◌+◌, ◌*◌, false, List, length, Option, Some}
+use Rattle.std.specs.Prelude.{◌≡◌, ◌≢◌, ◌↔◌, ◌≤◌, ℕ, ◌+◌, ◌*◌, false, true, List, length, Option, Some}
 use Rattle.std.specs.Io.KnownBytes.{Appends}
 use Rattle.file_access.specs.Outside.{Files}
 use Rattle.update_model.specs.Remaining.{remaining_changes}
@@ -8,67 +8,76 @@ use Rattle.certificates.specs.Updates.{Update}
 use Rattle.certificates.specs.declared.Plan.{Plan}
 use Rattle.packed_rounds.specs.Packing.{CanStand, PacksOrdered}
 use Rattle.packed_trees.specs.Bounds.{AreBounds}
-use Rattle.round_planner.specs.Search.{single_rounds}
-use Rattle.round_planner.specs.Updates.{update_target, bare_task, KeepsConsistent}
+use Rattle.round_planner.specs.Updates.{update_target, update_count, bare_task, KeepsConsistent}
 use Rattle.tag_allocator.specs.Tags.{available_tags}
-use Rattle.two_phase.specs.Depths.{depth_count}
 use Rattle.two_phase.specs.Laws.{FitsTwoPhase}
 use Rattle.command_base.specs.declared.status.Status.{Status}
 use Rattle.command_base.specs.declared.status.Status.TheVariants as status
 use Rattle.command_base.specs.declared.kinds.FileKind.TheVariants as kind
 use Rattle.command_base.specs.Kinds.{limit_of}
-use Rattle.command_base.specs.Names.{UpdateNames}
 use Rattle.command_base.specs.Updates.{FilesMeanUpdate, WritesPlan}
+use Rattle.command_base.specs.JudgedFiles.{RefusalPromise}
 use Rattle.command_base.specs.Runs.{IsComplete}
 use Rattle.check_base.specs.Checks.{FilesAreCertified}
 use Rattle.plan_command.specs.NoPlanLines as lines
-use Rattle.plan_command.specs.NewPlans.{FilesHavePlan, FilesMeanTrees, RefusesBadEnds, HoldBeside, WritesPlanOf}
-use Rattle.pack_command.specs.Chosen.{IsPackPlan}
-use Rattle.pack_command.specs.PackFiles.{IsPackingOrdered, EndsInOrder, FilesHavePackPlan, FilesPackNoTags, FilesPackNoRoom, AreFull}
+use Rattle.plan_command.specs.NewPlans.{FilesHavePlan, FilesMeanTrees, HoldBeside, WritesPlanOf}
+use Rattle.pack_command.specs.declared.names.PackKind.TheVariants as pack_kind
+use Rattle.pack_command.specs.Chosen.{IsPackPlan, IsPackingOrdered, phased_count}
+use Rattle.pack_command.specs.Names.{PackNames}
+use Rattle.pack_command.specs.PackFiles.{EndsInOrder, FilesHavePackPlan, FilesPackNoTags, FilesPackNoRoom, IsPackable, IsPackRefusal, AreFull}
 
--- the files and their names, what was written before and after the run, and how it ended
-pub record PackPromise (files : Files) (names : UpdateNames) (old new : Option (List ℕ)) (result : Status) : Type 0 where
+-- the files, their names and KIND, what was written before and after the run, and how it ended
+pub record PackPromise (files : Files) (names : PackNames) (old new : Option (List ℕ)) (result : Status) : Type 0 where
   -- Done comes exactly where the four files mean an update with at most 8192 classes whose ends are good, and packing or the search
-  -- ends ordered, or there are tags and room for two phases.
+  -- ends ordered, or there are tags and room for two phases; with KIND `ordered` only the former, with `two-phase` only the latter.
   pub done : IsComplete result → ((result ≡ status.Done) ↔ FilesHavePackPlan files names)
-  -- So it comes wherever there is a plan for `plan`.
-  pub wherever : IsComplete result → FilesHavePlan files names → result ≡ status.Done
-  -- Then the text of the chosen plan was written: the packed one, or where packing ends stuck that of the search, or that of two phases
-  -- where it has fewer rounds or is the only one. Reading it gives this plan.
-  pub writes : (u : Update) → FilesMeanUpdate files names u → result ≡ status.Done → WritesPlanOf IsPackPlan u old new
+  -- So without KIND it comes wherever there is a plan for `plan`.
+  pub wherever : names.kind ≡ pack_kind.Any → IsComplete result → FilesHavePlan files names.files → result ≡ status.Done
+  -- Then the text of the chosen plan was written. Without KIND that is the packed one, or where packing ends stuck that of the search;
+  -- or that of two phases, where the other has more than twice as many rounds or there is no other. Reading it gives this plan.
+  pub writes : (u : Update) → FilesMeanUpdate files names.files u → result ≡ status.Done → WritesPlanOf (IsPackPlan names.kind) u old new
   -- The plan that was written is certified, and so it keeps each packet's trace good in every state of every run.
-  pub keeps : (before : List ℕ) (u : Update) (p : Plan) → old ≡ Some before → result ≡ status.Done → FilesMeanUpdate files names u → WritesPlan u.net p old new → KeepsConsistent u p
+  pub keeps : (before : List ℕ) (u : Update) (p : Plan) → old ≡ Some before → result ≡ status.Done → FilesMeanUpdate files names.files u → WritesPlan u.net p old new → KeepsConsistent u p
   -- Where what was written has no more bytes than a plan may have, `check` over the same files and this text says Done.
   pub checked : (others : Files) (before plan text : List ℕ) → old ≡ Some before → result ≡ status.Done → Appends old new text
-      → length text ≤ limit_of kind.Plan → HoldBeside files others names plan text → FilesAreCertified others (record { update = names; plan = plan })
+      → length text ≤ limit_of kind.Plan → HoldBeside files others names.files plan text → FilesAreCertified others (record { update = names.files; plan = plan })
   -- Where packing or the search ends ordered it has at most as many rounds as changes lead from the old to the new tables: as many
-  -- as an ordered plan of `plan` has.
-  pub never_more : (before : List ℕ) (u : Update) (p : Plan) → old ≡ Some before → result ≡ status.Done → FilesMeanUpdate files names u → WritesPlan u.net p old new
+  -- as an ordered plan of `plan` has. With KIND `two-phase` nothing like that is said.
+  pub never_more : names.kind ≢ pack_kind.TwoPhase → (before : List ℕ) (u : Update) (p : Plan) → old ≡ Some before → result ≡ status.Done → FilesMeanUpdate files names.files u → WritesPlan u.net p old new
       → EndsInOrder u → length p.rounds ≤ length (remaining_changes u.old u.new)
-  -- Where there are tags and room for two phases it has at most two rounds for each depth of ingress rules, and four.
-  pub few_rounds : (before : List ℕ) (u : Update) (p : Plan) → old ≡ Some before → result ≡ status.Done → FilesMeanUpdate files names u → WritesPlan u.net p old new
-      → FitsTwoPhase u.net u.old u.new → length p.rounds ≤ 2 * depth_count u.net u.new + 4
+  -- Without KIND, where there are tags and room for two phases, it has at most twice as many rounds as two phases: two for each depth of
+  -- ingress rules, and four. With `two-phase` it has as many as they.
+  pub few_rounds : names.kind ≡ pack_kind.Any → (before : List ℕ) (u : Update) (p : Plan) → old ≡ Some before → result ≡ status.Done → FilesMeanUpdate files names.files u → WritesPlan u.net p old new
+      → FitsTwoPhase u.net u.old u.new → length p.rounds ≤ 2 * phased_count u
+  pub phased_rounds : names.kind ≡ pack_kind.TwoPhase → (before : List ℕ) (u : Update) (p : Plan) → old ≡ Some before → result ≡ status.Done → FilesMeanUpdate files names.files u → WritesPlan u.net p old new
+      → length p.rounds ≡ phased_count u
+  -- With KIND `ordered` it is an ordered plan, with `two-phase` one of two phases.
+  pub kind_ordered : names.kind ≡ pack_kind.Ordered → (before : List ℕ) (u : Update) (p : Plan) → old ≡ Some before → result ≡ status.Done → FilesMeanUpdate files names.files u → WritesPlan u.net p old new
+      → is_two_phase p.evidence ≡ false
+  pub kind_two_phase : names.kind ≡ pack_kind.TwoPhase → (before : List ℕ) (u : Update) (p : Plan) → old ≡ Some before → result ≡ status.Done → FilesMeanUpdate files names.files u → WritesPlan u.net p old new
+      → is_two_phase p.evidence ≡ true
   -- Where packing ends ordered and the plan is an ordered one, its rounds are the packed ones, and each is full: no change that it
   -- leaves could have stood in it besides.
-  pub full : (before : List ℕ) (u : Update) (p : Plan) → old ≡ Some before → result ≡ status.Done → FilesMeanUpdate files names u → WritesPlan u.net p old new
+  pub full : (before : List ℕ) (u : Update) (p : Plan) → old ≡ Some before → result ≡ status.Done → FilesMeanUpdate files names.files u → WritesPlan u.net p old new
       → IsPackingOrdered u → is_two_phase p.evidence ≡ false → PacksOrdered (update_target u) u.old p.rounds × AreFull (update_target u) u.old p.rounds
-  -- Where all changes from the old to the new tables can be one round, it has no more than one.
-  pub one_round : (before : List ℕ) (u : Update) (p : Plan) → old ≡ Some before → result ≡ status.Done → FilesMeanUpdate files names u → WritesPlan u.net p old new
+  -- Where all changes from the old to the new tables can be one round, it has no more than one, but with KIND `two-phase`.
+  pub one_round : names.kind ≢ pack_kind.TwoPhase → (before : List ℕ) (u : Update) (p : Plan) → old ≡ Some before → result ≡ status.Done → FilesMeanUpdate files names.files u → WritesPlan u.net p old new
       → CanStand (update_target u) u.old (remaining_changes u.old u.new) → length p.rounds ≤ 1
-  -- On an update of destination trees it says Done, and packing ends ordered.
-  pub tree : IsComplete result → (u : Update) → FilesMeanTrees files names u → (result ≡ status.Done) × IsPackingOrdered u
+  -- On an update of destination trees packing ends ordered, and it says Done, with KIND `two-phase` where there are tags and room.
+  pub tree : IsComplete result → (u : Update) → FilesMeanTrees files names.files u → (names.kind ≢ pack_kind.TwoPhase → result ≡ status.Done) × IsPackingOrdered u
   -- There it has at most as many rounds as a class's new path that leaves has places at which the lookup differs between the old and the
   -- new tables; one more where some class's new path is dropped and the lookup differs at its entry; and one more where some rule with
-  -- another action in the new tables is picked by the lookup at no place of a class's new path.
-  pub tree_rounds : (before : List ℕ) (u : Update) (p : Plan) → old ≡ Some before → result ≡ status.Done → FilesMeanTrees files names u → WritesPlan u.net p old new
+  -- another action in the new tables is picked by the lookup at no place of a class's new path. With KIND `two-phase` it is not said.
+  pub tree_rounds : names.kind ≢ pack_kind.TwoPhase → (before : List ℕ) (u : Update) (p : Plan) → old ≡ Some before → result ≡ status.Done → FilesMeanTrees files names.files u → WritesPlan u.net p old new
       → (most dropped unmet : ℕ) → AreBounds (bare_task u) u.old most dropped unmet → length p.rounds ≤ most + dropped + unmet
-  -- Refused comes exactly where an end isn't good, and the line names the first break; too many classes are a bad file.
-  pub refusals : RefusesBadEnds files names old new result
-  -- Too few tags, and a switch that is too small, come exactly where packing and the search end stuck; the lines have the numbers and
-  -- the rounds of the search.
+  -- Refused comes exactly where an end isn't good, and the line names the first break; and with KIND `ordered` where the ends are good
+  -- and packing and the search end stuck, and the lines have the rounds of the search. Too many classes are a bad file.
+  pub refusals : RefusalPromise (FilesMeanUpdate files names.files) update_count (IsPackable names.kind) (IsPackRefusal names.kind) old new result
+  -- Too few tags, and a switch that is too small, come exactly where packing and the search end stuck, and with KIND `two-phase` also
+  -- where they don't; the lines have the numbers and the rounds of the search that is stuck. With `ordered` they never come.
   pub too_few : IsComplete result → ((result ≡ status.TooFewTags) ↔ FilesPackNoTags files names)
   pub too_few_lines : IsComplete result → (none : FilesPackNoTags files names)
-      → Appends old new (lines.too_few_lines none.lack.update.net (length none.lack.update.net.vlans) (length (available_tags none.lack.update.net)) (single_rounds none.lack.stuck.changes))
+      → Appends old new (lines.too_few_lines none.update.net (length none.update.net.vlans) (length (available_tags none.update.net)) none.tried)
   pub too_small : IsComplete result → ((result ≡ status.TooSmall) ↔ FilesPackNoRoom files names)
   pub too_small_lines : IsComplete result → (none : FilesPackNoRoom files names)
-      → Appends old new (lines.too_small_lines none.lack.update.net none.lack.switch none.lack.need none.lack.capacity (single_rounds none.lack.stuck.changes))
+      → Appends old new (lines.too_small_lines none.update.net none.switch none.need none.capacity none.tried)

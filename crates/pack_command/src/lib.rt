@@ -3,8 +3,10 @@
 
 mod command;
 pub mod laws;
+mod names;
 mod packing;
 mod phasing;
 mod replies;
 
 pub use crate::command::pack;
+pub use crate::names::{PackKind, PackNames, pack_names};

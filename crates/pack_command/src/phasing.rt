@@ -12,17 +12,18 @@ ghost use Rattle.two_phase.specs.Laws.{FitsTwoPhase};
 ghost use Rattle.two_phase.specs.Plans.{IsTwoCause};
 ghost use Rattle.command_base.specs.Updates.{meaning_of};
 ghost use Rattle.command_base.specs.Replies.{answer_of};
-ghost use Rattle.upgrade_command.specs.Texts.{SaysPlan};
 ghost use Rattle.plan_command.specs.Ends.{BothEndsAreGood};
 ghost use Rattle.plan_command.specs.Planned.{SaysPlanOf};
-ghost use Rattle.pack_command.specs.Chosen.{IsOrderedPlan, HasNoOrderedPlan, IsPackPlan, phased_plan, phased_count};
-ghost use Rattle.pack_command.specs.Packed.{SaysChosen};
+ghost use Rattle.pack_command.specs.declared.names.PackKind.TheVariants as pack_kind;
+ghost use Rattle.pack_command.specs.Chosen.{AreTriedFor, HasNoOrderedPlan, HasOrderedPlan, IsOrderedPlan, IsPackPlan, phased_plan, phased_count};
+ghost use Rattle.pack_command.specs.Packed.{SaysChosen, SaysNoOrdered};
 
+use crate::names::PackKind;
 use certificates::Plan;
 use certificates::laws::certified_consistent;
-use command_base::{Reply, UpdateFiles};
+use command_base::{Reply, Status, UpdateFiles};
 use net_base::Memory;
-use plan_command::no_plan_reply;
+use plan_command::{no_plan_reply, tried_line};
 use std::alloc::Global;
 use two_phase::laws::depth_rounds_count;
 use two_phase::{TwoFault, two_phase_by_depth};
@@ -31,6 +32,10 @@ use upgrade_command::plan_reply;
 
 /// A plan of two phases has no fewer rounds.
 const FEWEST_PHASED: usize = 6;
+
+/// Two phases are preferred where an ordered plan has more rounds than so many times theirs: they fill tables and change every
+/// switch.
+const MOST_TIMES: usize = 2;
 
 /// The plan of two phases with the rounds that were tried, or why there is none.
 fn phase_plan(alloc: Global, files: &UpdateFiles, tried: &Rounds) -> Result<Plan, TwoFault>
@@ -55,23 +60,57 @@ fn phase_plan(alloc: Global, files: &UpdateFiles, tried: &Rounds) -> Result<Plan
     two_phase_by_depth(alloc, &files.net, &files.old, &files.new, tried)
 }
 
-/// The reply by the chosen plan.
+/// The reply by this plan.
 fn chosen_reply(alloc: Global, files: &UpdateFiles, plan: &Plan) -> Result<Reply, Memory>
     requires old { IsUserConfig files.now.net (rules_of_all files.now.old) }
     requires new { IsUserConfig files.now.net (rules_of_all files.now.new) }
     requires valid { IsValidPlan files.now.net plan.now }
-    requires is_pack { IsPackPlan (meaning_of files.now) plan.now }
     requires certified { IsCertified (task_for (meaning_of files.now) plan.now) plan.now.evidence }
     requires classes { HasSameClasses (classes_for (task_for (meaning_of files.now) plan.now))
         (update_classes (meaning_of files.now)) }
-    ensures chosen { IfOk result (λ r. SaysPlanOf IsPackPlan (meaning_of files.now) (answer_of r)) }
-    ensures says { IfOk result (λ r. SaysPlan files.now.net plan.now (answer_of r)) }
+    ensures { IfOk result
+        (λ r. SaysPlanOf (λ v p. p ≡ plan.now) (meaning_of files.now) (answer_of r)) }
 {
     certified_consistent(&files.net, &files.old, &files.new, &files.demands, plan);
     plan_reply(alloc, &files.net, plan)
 }
 
-/// The reply by an ordered plan, or by that of two phases where it has fewer rounds.
+/// The reply by two phases with the rounds that were tried, where no ordered plan may be written.
+fn phased_reply(
+    alloc: Global,
+    files: &UpdateFiles,
+    tried: &Rounds,
+    kind: PackKind,
+) -> Result<Reply, Memory>
+    requires old { IsUserConfig files.now.net (rules_of_all files.now.old) }
+    requires new { IsUserConfig files.now.net (rules_of_all files.now.new) }
+    requires good { BothEndsAreGood (meaning_of files.now) }
+    requires tried { AreTried files.now.net tried.now }
+    requires are_tried { AreTriedFor kind (meaning_of files.now) tried.now }
+    ensures { IfOk result (λ r. SaysChosen kind (meaning_of files.now) (answer_of r)) }
+{
+    match phase_plan(alloc, files, tried) {
+        Ok(plan) => chosen_reply(alloc, files, &plan),
+        Err(fault) => no_plan_reply(alloc, files, tried, fault),
+    }
+}
+
+/// The reply where there is an ordered plan, and two phases alone may be written.
+pub(crate) fn two_phase_reply(alloc: Global, files: &UpdateFiles) -> Result<Reply, Memory>
+    requires old { IsUserConfig files.now.net (rules_of_all files.now.old) }
+    requires new { IsUserConfig files.now.net (rules_of_all files.now.new) }
+    requires good { BothEndsAreGood (meaning_of files.now) }
+    requires ordered { HasOrderedPlan (meaning_of files.now) }
+    ensures { IfOk result
+        (λ r. SaysChosen pack_kind.TwoPhase (meaning_of files.now) (answer_of r)) }
+{
+    let none = Rounds::make(alloc)?;
+    let reply = phased_reply(alloc, files, &none, PackKind::TwoPhase);
+    drop(none);
+    reply
+}
+
+/// The reply by an ordered plan, or by that of two phases where the other has more than twice as many rounds.
 fn shorter_reply(
     alloc: Global,
     files: &UpdateFiles,
@@ -95,21 +134,18 @@ fn shorter_reply(
     requires other_classes { HasSameClasses
         (classes_for (task_for (meaning_of files.now) phased.now))
         (update_classes (meaning_of files.now)) }
-    ensures { IfOk result (λ r. SaysPlanOf IsPackPlan (meaning_of files.now) (answer_of r)) }
+    ensures { IfOk result
+        (λ r. SaysPlanOf (IsPackPlan pack_kind.Any) (meaning_of files.now) (answer_of r)) }
 {
-    if phased.rounds.count() < plan.rounds.count() {
-        chosen_reply(alloc, files, phased)
-    } else {
+    if plan.rounds.count() <= MOST_TIMES * phased.rounds.count() {
         chosen_reply(alloc, files, plan)
+    } else {
+        chosen_reply(alloc, files, phased)
     }
 }
 
-/// The reply where there is an ordered plan.
-pub(crate) fn ordered_reply(
-    alloc: Global,
-    files: &UpdateFiles,
-    plan: &Plan,
-) -> Result<Reply, Memory>
+/// The reply where there is an ordered plan, and any may be written.
+fn any_reply(alloc: Global, files: &UpdateFiles, plan: &Plan) -> Result<Reply, Memory>
     requires old { IsUserConfig files.now.net (rules_of_all files.now.old) }
     requires new { IsUserConfig files.now.net (rules_of_all files.now.new) }
     requires good { BothEndsAreGood (meaning_of files.now) }
@@ -118,9 +154,10 @@ pub(crate) fn ordered_reply(
     requires certified { IsCertified (task_for (meaning_of files.now) plan.now) plan.now.evidence }
     requires classes { HasSameClasses (classes_for (task_for (meaning_of files.now) plan.now))
         (update_classes (meaning_of files.now)) }
-    ensures { IfOk result (λ r. SaysPlanOf IsPackPlan (meaning_of files.now) (answer_of r)) }
+    ensures { IfOk result
+        (λ r. SaysPlanOf (IsPackPlan pack_kind.Any) (meaning_of files.now) (answer_of r)) }
 {
-    if plan.rounds.count() <= FEWEST_PHASED {
+    if plan.rounds.count() <= MOST_TIMES * FEWEST_PHASED {
         return chosen_reply(alloc, files, plan);
     }
     let none = Rounds::make(alloc)?;
@@ -134,21 +171,59 @@ pub(crate) fn ordered_reply(
     }
 }
 
+/// The reply where there is an ordered plan.
+pub(crate) fn ordered_reply(
+    alloc: Global,
+    files: &UpdateFiles,
+    plan: &Plan,
+    kind: PackKind,
+) -> Result<Reply, Memory>
+    requires old { IsUserConfig files.now.net (rules_of_all files.now.old) }
+    requires new { IsUserConfig files.now.net (rules_of_all files.now.new) }
+    requires good { BothEndsAreGood (meaning_of files.now) }
+    requires ordered { IsOrderedPlan (meaning_of files.now) plan.now }
+    requires valid { IsValidPlan files.now.net plan.now }
+    requires certified { IsCertified (task_for (meaning_of files.now) plan.now) plan.now.evidence }
+    requires classes { HasSameClasses (classes_for (task_for (meaning_of files.now) plan.now))
+        (update_classes (meaning_of files.now)) }
+    ensures { IfOk result (λ r. SaysChosen kind (meaning_of files.now) (answer_of r)) }
+{
+    match kind {
+        PackKind::Any => any_reply(alloc, files, plan),
+        PackKind::Ordered => chosen_reply(alloc, files, plan),
+        PackKind::TwoPhase => two_phase_reply(alloc, files),
+    }
+}
+
+/// The reply where there is no ordered plan, and no other may be written.
+fn no_ordered_reply(alloc: Global, files: &UpdateFiles, tried: &Rounds) -> Result<Reply, Memory>
+    requires none { HasNoOrderedPlan (meaning_of files.now) tried.now }
+    ensures { IfOk result (λ r. SaysNoOrdered (meaning_of files.now) (answer_of r)) }
+{
+    let mut text = b"no ordered plan\n".to_vec(alloc)?;
+    text.extend_from_slice(&tried_line(alloc, &files.net, tried)?)?;
+    Ok(Reply {
+        status: Status::Refused,
+        text,
+    })
+}
+
 /// The reply where packing and the search end stuck, the search after the rounds that were tried.
 pub(crate) fn stuck_reply(
     alloc: Global,
     files: &UpdateFiles,
     tried: &Rounds,
+    kind: PackKind,
 ) -> Result<Reply, Memory>
     requires old { IsUserConfig files.now.net (rules_of_all files.now.old) }
     requires new { IsUserConfig files.now.net (rules_of_all files.now.new) }
     requires good { BothEndsAreGood (meaning_of files.now) }
     requires none { HasNoOrderedPlan (meaning_of files.now) tried.now }
     requires tried { AreTried files.now.net tried.now }
-    ensures { IfOk result (λ r. SaysChosen (meaning_of files.now) (answer_of r)) }
+    ensures { IfOk result (λ r. SaysChosen kind (meaning_of files.now) (answer_of r)) }
 {
-    match phase_plan(alloc, files, tried) {
-        Ok(plan) => chosen_reply(alloc, files, &plan),
-        Err(fault) => no_plan_reply(alloc, files, tried, fault),
+    match kind {
+        PackKind::Ordered => no_ordered_reply(alloc, files, tried),
+        PackKind::Any | PackKind::TwoPhase => phased_reply(alloc, files, tried, kind),
     }
 }

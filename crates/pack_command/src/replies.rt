@@ -8,12 +8,12 @@ ghost use Rattle.command_base.specs.Judgements.{most_classes};
 ghost use Rattle.command_base.specs.Updates.{meaning_of};
 ghost use Rattle.command_base.specs.Replies.{answer_of};
 ghost use Rattle.plan_command.specs.Ends.{BothEndsAreGood, AreEndsOf};
-ghost use Rattle.plan_command.specs.Planned.{SaysPlanOf};
-ghost use Rattle.pack_command.specs.Chosen.{IsPackPlan, IsPackingStuck};
+ghost use Rattle.pack_command.specs.Chosen.{IsPackingStuck};
 ghost use Rattle.pack_command.specs.Packed.{SaysChosen, IsPacked};
 
+use crate::names::PackKind;
 use crate::packing::packed_plan;
-use crate::phasing::{ordered_reply, stuck_reply};
+use crate::phasing::{ordered_reply, stuck_reply, two_phase_reply};
 use command_base::{Reply, UpdateFiles};
 use net_base::Memory;
 use packed_trees::laws::{trees_are_never_stuck, trees_take_few_rounds};
@@ -23,27 +23,45 @@ use round_planner::{Ordered, order};
 use std::alloc::Global;
 use update_model::Rounds;
 
-/// The reply where packing ends ordered with these rounds.
-fn packed_reply(alloc: Global, files: &UpdateFiles, rounds: Rounds) -> Result<Reply, Memory>
+/// The reply where packing ends ordered with these rounds. Where an ordered plan may not be written, no evidence is made.
+fn packed_reply(
+    alloc: Global,
+    files: &UpdateFiles,
+    rounds: Rounds,
+    kind: PackKind,
+) -> Result<Reply, Memory>
     requires old { IsUserConfig files.now.net (rules_of_all files.now.old) }
     requires new { IsUserConfig files.now.net (rules_of_all files.now.new) }
     requires packed { PacksOrdered (update_target (meaning_of files.now))
         (rules_of_all files.now.old) rounds }
     requires good { BothEndsAreGood (meaning_of files.now) }
     requires few { update_count (meaning_of files.now) ≤ most_classes }
-    ensures { IfOk result (λ r. SaysPlanOf IsPackPlan (meaning_of files.now) (answer_of r)) }
+    ensures { IfOk result (λ r. SaysChosen kind (meaning_of files.now) (answer_of r)) }
 {
-    let plan = packed_plan(alloc, files, rounds)?;
-    ordered_reply(alloc, files, &plan)
+    match kind {
+        PackKind::TwoPhase => {
+            drop(rounds);
+            two_phase_reply(alloc, files)
+        }
+        PackKind::Any | PackKind::Ordered => {
+            let plan = packed_plan(alloc, files, rounds)?;
+            ordered_reply(alloc, files, &plan, kind)
+        }
+    }
 }
 
 /// The reply where packing ends stuck, by the one-by-one search.
-fn search_reply(alloc: Global, files: &UpdateFiles, ends: &GoodEnds) -> Result<Reply, Memory>
+fn search_reply(
+    alloc: Global,
+    files: &UpdateFiles,
+    ends: &GoodEnds,
+    kind: PackKind,
+) -> Result<Reply, Memory>
     requires old { IsUserConfig files.now.net (rules_of_all files.now.old) }
     requires new { IsUserConfig files.now.net (rules_of_all files.now.new) }
     requires ends { AreEndsOf (meaning_of files.now) ends.now }
     requires packing { IsPackingStuck (meaning_of files.now) }
-    ensures { IfOk result (λ r. SaysChosen (meaning_of files.now) (answer_of r)) }
+    ensures { IfOk result (λ r. SaysChosen kind (meaning_of files.now) (answer_of r)) }
 {
     match order(
         alloc,
@@ -53,17 +71,22 @@ fn search_reply(alloc: Global, files: &UpdateFiles, ends: &GoodEnds) -> Result<R
         &ends.duties,
         &ends.classes,
     )? {
-        Ordered::Rounds(plan) => ordered_reply(alloc, files, &plan),
-        Ordered::Stuck(tried) => stuck_reply(alloc, files, &tried),
+        Ordered::Rounds(plan) => ordered_reply(alloc, files, &plan, kind),
+        Ordered::Stuck(tried) => stuck_reply(alloc, files, &tried, kind),
     }
 }
 
 /// The reply by the chosen plan, or why there is none.
-fn found_reply(alloc: Global, files: &UpdateFiles, ends: &GoodEnds) -> Result<Reply, Memory>
+fn found_reply(
+    alloc: Global,
+    files: &UpdateFiles,
+    ends: &GoodEnds,
+    kind: PackKind,
+) -> Result<Reply, Memory>
     requires old { IsUserConfig files.now.net (rules_of_all files.now.old) }
     requires new { IsUserConfig files.now.net (rules_of_all files.now.new) }
     requires ends { AreEndsOf (meaning_of files.now) ends.now }
-    ensures { IfOk result (λ r. SaysChosen (meaning_of files.now) (answer_of r)) }
+    ensures { IfOk result (λ r. SaysChosen kind (meaning_of files.now) (answer_of r)) }
 {
     match pack(
         alloc,
@@ -73,33 +96,42 @@ fn found_reply(alloc: Global, files: &UpdateFiles, ends: &GoodEnds) -> Result<Re
         &ends.duties,
         &ends.classes,
     )? {
-        Packing::Ordered(rounds) => packed_reply(alloc, files, rounds),
-        Packing::Stuck(_) => search_reply(alloc, files, ends),
+        Packing::Ordered(rounds) => packed_reply(alloc, files, rounds, kind),
+        Packing::Stuck(_) => search_reply(alloc, files, ends, kind),
     }
 }
 
 /// The reply where both ends are good.
-fn good_reply(alloc: Global, files: &UpdateFiles, ends: &GoodEnds) -> Result<Reply, Memory>
+fn good_reply(
+    alloc: Global,
+    files: &UpdateFiles,
+    ends: &GoodEnds,
+    kind: PackKind,
+) -> Result<Reply, Memory>
     requires old { IsUserConfig files.now.net (rules_of_all files.now.old) }
     requires new { IsUserConfig files.now.net (rules_of_all files.now.new) }
     requires ends { AreEndsOf (meaning_of files.now) ends.now }
-    ensures { IfOk result (λ r. IsPacked (meaning_of files.now) (answer_of r)) }
+    ensures { IfOk result (λ r. IsPacked kind (meaning_of files.now) (answer_of r)) }
 {
     files.net.keeps_rules();
     trees_are_never_stuck();
     trees_take_few_rounds();
-    found_reply(alloc, files, ends)
+    found_reply(alloc, files, ends, kind)
 }
 
 /// What is said of an update: too many classes, an end that isn't good, the chosen plan, or why there is none.
-pub(crate) fn pack_update(alloc: Global, files: &UpdateFiles) -> Result<Reply, Memory>
+pub(crate) fn pack_update(
+    alloc: Global,
+    files: &UpdateFiles,
+    kind: PackKind,
+) -> Result<Reply, Memory>
     requires old { IsUserConfig files.now.net (rules_of_all files.now.old) }
     requires new { IsUserConfig files.now.net (rules_of_all files.now.new) }
-    ensures { IfOk result (λ r. IsPacked (meaning_of files.now) (answer_of r)) }
+    ensures { IfOk result (λ r. IsPacked kind (meaning_of files.now) (answer_of r)) }
 {
     match judge_ends(alloc, files)? {
         EndsVerdict::Good(ends) => {
-            let reply = good_reply(alloc, files, &ends);
+            let reply = good_reply(alloc, files, &ends, kind);
             drop(ends);
             reply
         }

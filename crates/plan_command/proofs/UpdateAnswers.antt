@@ -18,7 +18,7 @@ use Rattle.table_difference.specs.SameClasses.{HasSameClasses}
 use Rattle.plan_format.specs.Plans.{plan_in}
 use Rattle.plan_text.specs.PlanText.{plan_text}
 use Rattle.table_difference.specs.Targets.{Target}
-use Rattle.round_planner.specs.Search.{EndsOrdered, EndsStuck, single_rounds}
+use Rattle.round_planner.specs.Search.{EndsOrdered, EndsStuck}
 use Rattle.round_planner.specs.Updates.{update_classes, update_count, update_target, bare_task, KeepsConsistent}
 use Rattle.tag_allocator.specs.Tags.{available_tags}
 use Rattle.two_phase.specs.TwoPhasePlan.{two_phase_need}
@@ -37,14 +37,14 @@ use Rattle.command_base.specs.Updates.{FilesMeanUpdate, WritesPlan}
 use Rattle.command_base.specs.Readings.{reading_update}
 use Rattle.command_base.specs.Runs.{Answered}
 use Rattle.command_base.proofs.MeaningLaws.{update_meant}
-use Rattle.command_base.proofs.AnswerLaws.{meant, wrote, status_of, text_of, texts_same}
+use Rattle.command_base.proofs.AnswerLaws.{says_of_files, meant, wrote, status_of, text_of, texts_same}
 use Rattle.command_base.proofs.JudgementLaws.{IsAnswerOn, SaysOfGood, JudgesFiles, judges_by, says_of, says_good}
 use Rattle.check_base.specs.Checks.{FilesAreCertified}
 use Rattle.upgrade_command.specs.Texts.{SaysPlan}
 use Rattle.plan_command.specs.NoPlanLines.{too_few_lines, too_small_lines}
 use Rattle.plan_command.specs.NewPlans.{FilesMeanGoodEnds, FilesMeanTrees, FilesHave, FilesLackTags, FilesLackRoom, HoldBeside, WritesPlanOf}
 use Rattle.plan_command.specs.Ends.{BothEndsAreGood, IsEndLine}
-use Rattle.plan_command.specs.Planned.{SaysPlanOf, SaysTooFew, SaysTooSmall, SaysWhyNone, SaysOfGoodEnds, IsPlanAnswer}
+use Rattle.plan_command.specs.Planned.{SaysPlanOf, SaysTooFew, SaysTooSmall, SaysNoPhases, SaysWhyNone, SaysOfGoodEnds, IsPlanAnswer}
 
 -- both ends of an update of destination trees are good
 tree_ends : (u : Update) → IsTreeUpdate (bare_task u) → BothEndsAreGood u
@@ -58,34 +58,38 @@ AreApart = (to : Target) (old : List (List Rule)) (changes others : List Change)
 abbrev pub IsOneStuck : Type 0
 IsOneStuck = (to : Target) (old : List (List Rule)) (changes others : List Change) → EndsStuck to old changes → EndsStuck to old others → changes ≡ others
 
+-- there is one list at most of rounds that were tried
+abbrev pub IsOneTried : (Update → List (List Change) → Type 0) → Type 0
+IsOneTried Tried = (u : Update) (tried others : List (List Change)) → Tried u tried → Tried u others → tried ≡ others
+
 -- ---- why there is no plan
 
-module _ (u : Update) (answer : Answer) where
-  pub plan_status : (p : Plan) → SaysPlan u.net p answer → answer.status ≡ status.Done
-  plan_status p says = status_of answer _ _ says.answer_is
+pub plan_status : (u : Update) (answer : Answer) (p : Plan) → SaysPlan u.net p answer → answer.status ≡ status.Done
+plan_status u answer p says = status_of answer _ _ says.answer_is
 
-  none_other : (s : Status) → s ≢ status.TooFewTags → s ≢ status.TooSmall → SaysWhyNone u answer → answer.status ≢ s
+module _ (u : Update) (tried : List (List Change)) (answer : Answer) where
+  none_other : (s : Status) → s ≢ status.TooFewTags → s ≢ status.TooSmall → SaysNoPhases u tried answer → answer.status ≢ s
   none_other s few small (inl v) = λ is. few (sym is ∙ status_of answer _ _ v.answer_is)
   none_other s few small (inr v) = λ is. small (sym is ∙ status_of answer _ _ v.answer_is)
 
-  few_by_status : SaysWhyNone u answer → answer.status ≡ status.TooFewTags → SaysTooFew u answer
+  few_by_status : SaysNoPhases u tried answer → answer.status ≡ status.TooFewTags → SaysTooFew u tried answer
   few_by_status (inl v) is = v
   few_by_status (inr v) is = absurd (let e = status_of answer _ _ v.answer_is in cc)
 
-  small_by_status : SaysWhyNone u answer → answer.status ≡ status.TooSmall → SaysTooSmall u answer
+  small_by_status : SaysNoPhases u tried answer → answer.status ≡ status.TooSmall → SaysTooSmall u tried answer
   small_by_status (inl v) is = absurd (let e = status_of answer _ _ v.answer_is in cc)
   small_by_status (inr v) is = v
 
   -- where two phases fit, there is no such cause
-  pub none_fits : FitsTwoPhase u.net u.old u.new → ¬ SaysWhyNone u answer
+  pub none_fits : FitsTwoPhase u.net u.old u.new → ¬ SaysNoPhases u tried answer
   none_fits fits (inl v) = let need = v.few.need_is in let has = v.few.has_is in let fewer = v.few.fewer in let tags = fits.tags in omega (arith, need, has, fewer, tags)
   none_fits fits (inr v) = let need = v.small.need_is in let capacity = v.small.capacity_is in let over = v.small.over in let room = fits.room v.switch v.small.within in omega (arith, need, capacity, over, room)
 
-  few_of_none : length (available_tags u.net) < length u.net.vlans → SaysWhyNone u answer → SaysTooFew u answer
+  few_of_none : length (available_tags u.net) < length u.net.vlans → SaysNoPhases u tried answer → SaysTooFew u tried answer
   few_of_none fewer (inl v) = v
   few_of_none fewer (inr v) = absurd (let tags = v.small.tags in omega (arith, tags, fewer))
 
-  small_of_none : (s : SwitchId) (need capacity : ℕ) → IsFirstTooSmall u.net u.old u.new s need capacity → SaysWhyNone u answer → SaysTooSmall u answer
+  small_of_none : (s : SwitchId) (need capacity : ℕ) → IsFirstTooSmall u.net u.old u.new s need capacity → SaysNoPhases u tried answer → SaysTooSmall u tried answer
   small_of_none s need capacity small (inl v) = absurd (let n = v.few.need_is in let has = v.few.has_is in let fewer = v.few.fewer in let tags = small.tags in omega (arith, n, has, fewer, tags))
   small_of_none s need capacity small (inr v) = v
 
@@ -152,86 +156,92 @@ update_beside files others names plan text u beside mean = record {
 -- ---- the answer
 
 -- such a plan, or why there is none
-module _ (Is : Update → Plan → Type 0) (u : Update) (answer : Answer) where
+module _ (Is : Update → Plan → Type 0) (Tried : Update → List (List Change) → Type 0) (u : Update) (answer : Answer) where
   abbrev IsFound : Type 0
-  IsFound = SaysPlanOf Is u answer ⊎ SaysWhyNone u answer
+  IsFound = SaysPlanOf Is u answer ⊎ SaysWhyNone Tried u answer
 
   done_found : IsFound → answer.status ≡ status.Done → SaysPlanOf Is u answer
   done_found (inl v) is = v
-  done_found (inr v) is = absurd (none_other u answer status.Done (λ e. cc) (λ e. cc) v is)
+  done_found (inr v) is = absurd (none_other u v.tried answer status.Done (λ e. cc) (λ e. cc) v.why is)
 
-  few_found : IsFound → answer.status ≡ status.TooFewTags → SaysTooFew u answer
-  few_found (inl v) is = absurd (let e = plan_status u answer v.plan v.says in cc)
-  few_found (inr v) is = few_by_status u answer v is
-
-  small_found : IsFound → answer.status ≡ status.TooSmall → SaysTooSmall u answer
-  small_found (inl v) is = absurd (let e = plan_status u answer v.plan v.says in cc)
-  small_found (inr v) is = small_by_status u answer v is
+  none_found : (s : Status) → s ≢ status.Done → IsFound → answer.status ≡ s → SaysWhyNone Tried u answer
+  none_found s other (inl v) is = absurd (other (sym is ∙ plan_status u answer v.plan v.says))
+  none_found s other (inr v) is = v
 
   found_other : (s : Status) → s ≢ status.Done → s ≢ status.TooFewTags → s ≢ status.TooSmall → IsFound → answer.status ≢ s
   found_other s done few small (inl v) = λ is. done (sym is ∙ plan_status u answer v.plan v.says)
-  found_other s done few small (inr v) = none_other u answer s few small v
+  found_other s done few small (inr v) = none_other u v.tried answer s few small v.why
 
-module _ (Is : Update → Plan → Type 0) (SaysNone OfTrees : Update → Answer → Type 0) where
+module _ (Is : Update → Plan → Type 0) (Tried : Update → List (List Change) → Type 0) (OfTrees : Update → Answer → Type 0) where
+  -- what is said of an update with good ends
+  abbrev pub SaysOfEnds : Update → Answer → Type 0
+  SaysOfEnds u answer = SaysOfGoodEnds Is (SaysWhyNone Tried) OfTrees u answer
+
   -- each part in its place
-  answer_on : (u : Update) (answer : Answer) → IsPlanAnswer Is SaysNone OfTrees u answer → IsAnswerOn (update_count u) (BothEndsAreGood u) (SaysOfGoodEnds Is SaysNone OfTrees u answer) (IsEndLine u) answer
+  pub answer_on : (u : Update) (answer : Answer) → IsPlanAnswer Is (SaysWhyNone Tried) OfTrees u answer → IsAnswerOn (update_count u) (BothEndsAreGood u) (SaysOfEnds u answer) (IsEndLine u) answer
   answer_on u answer (inl (inl many)) = inl many
   answer_on u answer (inl (inr why)) = inr (inr why)
   answer_on u answer (inr says) = inr (inl says)
 
-  found_of : (u : Update) (answer : Answer) → (SaysNone u answer → SaysWhyNone u answer) → SaysOfGoodEnds Is SaysNone OfTrees u answer → SaysPlanOf Is u answer ⊎ SaysWhyNone u answer
-  found_of u answer why says = elim says.found [ inl v ↦ inl v | inr v ↦ inr (why v) ]
+  of_good_ends : (Good : Update → Type 0) → ((u : Update) (answer : Answer) → SaysOfEnds u answer → Good u) → (u : Update) (answer : Answer) → SaysOfEnds u answer → SaysOfGood (update_count u) (Good u) answer
+  of_good_ends Good good u answer says = record {
+    few = says.few;
+    holds = good u answer says;
+    not_refused = found_other Is Tried u answer status.Refused (λ e. cc) (λ e. cc) (λ e. cc) says.found;
+    not_bad = found_other Is Tried u answer status.BadFile (λ e. cc) (λ e. cc) (λ e. cc) says.found;
+  }
 
-  of_good_ends : ((u : Update) (answer : Answer) → SaysNone u answer → SaysWhyNone u answer) → (u : Update) (answer : Answer) → SaysOfGoodEnds Is SaysNone OfTrees u answer → SaysOfGood (update_count u) (BothEndsAreGood u) answer
-  of_good_ends why u answer says =
-      let found = found_of u answer (why u answer) says in
+-- a settled run of a command that plans: it refuses by such a line what isn't good in this sense
+pub record AnswersUpdate (Good : Update → Type 0) (Line : Update → List ℕ → Type 0) (Is : Update → Plan → Type 0) (Tried : Update → List (List Change) → Type 0) (OfTrees : Update → Answer → Type 0)
+    (files : Files) (names : UpdateNames) (old new : Option (List ℕ)) (result : Status) : Type 0 where
+  pub judged : JudgesFiles (FilesMeanUpdate files names) update_count Good (SaysOfEnds Is Tried OfTrees) Line old new result
+  pub of_trees : (u : Update) → FilesMeanTrees files names u → OfTrees u judged.run.answer
+
+-- on destination trees, of which both ends are good
+trees_said : (Is : Update → Plan → Type 0) (SaysNone OfTrees : Update → Answer → Type 0) (u : Update) (answer : Answer) → update_count u ≤ most_classes → IsTreeUpdate (bare_task u)
+    → IsPlanAnswer Is SaysNone OfTrees u answer → OfTrees u answer
+trees_said Is SaysNone OfTrees u answer few tree (inl (inl v)) = absurd (let many = v.many in omega (arith, few, many))
+trees_said Is SaysNone OfTrees u answer few tree (inl (inr v)) = absurd (v.fails (tree_ends u tree))
+trees_said Is SaysNone OfTrees u answer few tree (inr says) = says.tree tree
+
+module _ {Is : Update → Plan → Type 0} {Tried : Update → List (List Change) → Type 0} {OfTrees : Update → Answer → Type 0} {files : Files} {names : UpdateNames} {old new : Option (List ℕ)} {result : Status} where
+  -- the run of such a command's dialogue is one
+  pub answers_as : (SaysNone : Update → Answer → Type 0) (Good : Update → Type 0) (Line : Update → List ℕ → Type 0)
+      → ((u : Update) (answer : Answer) → IsPlanAnswer Is SaysNone OfTrees u answer → IsAnswerOn (update_count u) (Good u) (SaysOfEnds Is Tried OfTrees u answer) (Line u) answer)
+      → ((u : Update) (answer : Answer) → SaysOfEnds Is Tried OfTrees u answer → Good u)
+      → Answered (IsPlanAnswer Is SaysNone OfTrees) files (reading_update names) old new result → AnswersUpdate Good Line Is Tried OfTrees files names old new result
+  answers_as SaysNone Good Line on good a =
+      let said = says_of_files (update_meant files names) a in
       record {
-        few = says.few;
-        holds = says.good;
-        not_refused = found_other Is u answer status.Refused (λ e. cc) (λ e. cc) (λ e. cc) found;
-        not_bad = found_other Is u answer status.BadFile (λ e. cc) (λ e. cc) (λ e. cc) found;
+        judged = judges_by (update_meant files names) a on (of_good_ends Is Tried OfTrees Good good);
+        of_trees = λ u trees. trees_said Is SaysNone OfTrees u said.answer trees.few trees.tree (said.said u trees.mean);
       }
 
--- a settled run of a command that plans
-pub record AnswersUpdate (Is : Update → Plan → Type 0) (SaysNone OfTrees : Update → Answer → Type 0) (files : Files) (names : UpdateNames) (old new : Option (List ℕ)) (result : Status) : Type 0 where
-  pub judged : JudgesFiles (FilesMeanUpdate files names) update_count BothEndsAreGood (SaysOfGoodEnds Is SaysNone OfTrees) IsEndLine old new result
-  pub why : (u : Update) → SaysNone u judged.run.answer → SaysWhyNone u judged.run.answer
+  -- where it refuses nothing but ends that aren't good
+  pub answers_by : Answered (IsPlanAnswer Is (SaysWhyNone Tried) OfTrees) files (reading_update names) old new result
+      → AnswersUpdate BothEndsAreGood IsEndLine Is Tried OfTrees files names old new result
+  answers_by a = answers_as (SaysWhyNone Tried) BothEndsAreGood IsEndLine (answer_on Is Tried OfTrees) (λ u answer says. says.good) a
 
--- the run of such a command's dialogue is one
-pub answers_by : (Is : Update → Plan → Type 0) (SaysNone OfTrees : Update → Answer → Type 0) (files : Files) (names : UpdateNames) (old new : Option (List ℕ)) (result : Status)
-    → ((u : Update) (answer : Answer) → SaysNone u answer → SaysWhyNone u answer) → Answered (IsPlanAnswer Is SaysNone OfTrees) files (reading_update names) old new result
-    → AnswersUpdate Is SaysNone OfTrees files names old new result
-answers_by Is SaysNone OfTrees files names old new result why a = record {
-  judged = judges_by (update_meant files names) a (answer_on Is SaysNone OfTrees) (of_good_ends Is SaysNone OfTrees why);
-  why = λ u. why u a.answer;
-}
+-- destination trees have good ends
+pub trees_good : {files : Files} {names : UpdateNames} (u : Update) → FilesMeanTrees files names u → FilesMeanGoodEnds files names u
+trees_good u trees = record { mean = trees.mean; few = trees.few; good = tree_ends u trees.tree }
 
 -- of a settled run over a source that tells
-module _ {Is : Update → Plan → Type 0} {SaysNone OfTrees : Update → Answer → Type 0} {files : Files} {names : UpdateNames} {old new : Option (List ℕ)} {result : Status}
-    (r : AnswersUpdate Is SaysNone OfTrees files names old new result) where
+module _ {Good : Update → Type 0} {Line : Update → List ℕ → Type 0} {Is : Update → Plan → Type 0} {Tried : Update → List (List Change) → Type 0} {OfTrees : Update → Answer → Type 0}
+    {files : Files} {names : UpdateNames} {old new : Option (List ℕ)} {result : Status} (r : AnswersUpdate Good Line Is Tried OfTrees files names old new result) where
   abbrev pub run_answer : Answer
   run_answer = r.judged.run.answer
 
   -- what is said of an update
-  says : (u : Update) → FilesMeanUpdate files names u → result ≢ status.BadFile → result ≢ status.Refused → SaysOfGoodEnds Is SaysNone OfTrees u run_answer
+  says : (u : Update) → FilesMeanUpdate files names u → result ≢ status.BadFile → result ≢ status.Refused → SaysOfEnds Is Tried OfTrees u run_answer
   says u mean other broken = says_of r.judged u mean other broken
 
-  -- what is said where the ends are good
-  pub of_good : (u : Update) → FilesMeanGoodEnds files names u → SaysOfGoodEnds Is SaysNone OfTrees u run_answer
-  of_good u good = says_good r.judged u good.mean good.few good.good
+  -- what is said where it isn't refused
+  of_good : (u : Update) → FilesMeanGoodEnds files names u → Good u → SaysOfEnds Is Tried OfTrees u run_answer
+  of_good u ends good = says_good r.judged u ends.mean ends.few good
 
-  good_ends : (u : Update) → FilesMeanUpdate files names u → SaysOfGoodEnds Is SaysNone OfTrees u run_answer → FilesMeanGoodEnds files names u
+  good_ends : (u : Update) → FilesMeanUpdate files names u → SaysOfEnds Is Tried OfTrees u run_answer → FilesMeanGoodEnds files names u
   good_ends u mean says = record { mean = mean; few = says.few; good = says.good }
-
-  found : (u : Update) → SaysOfGoodEnds Is SaysNone OfTrees u run_answer → SaysPlanOf Is u run_answer ⊎ SaysWhyNone u run_answer
-  found u says = found_of Is SaysNone OfTrees u run_answer (r.why u) says
-
-  -- destination trees have good ends
-  pub trees_good : (u : Update) → FilesMeanTrees files names u → FilesMeanGoodEnds files names u
-  trees_good u trees = record { mean = trees.mean; few = trees.few; good = tree_ends u trees.tree }
-
-  pub of_trees : (u : Update) → FilesMeanTrees files names u → OfTrees u run_answer
-  of_trees u trees = (of_good u (trees_good u trees)).tree trees.tree
 
   -- ---- the plan that was written
 
@@ -251,7 +261,7 @@ module _ {Is : Update → Plan → Type 0} {SaysNone OfTrees : Update → Answer
       cc
 
   plan_of : result ≡ status.Done → (u : Update) → FilesMeanUpdate files names u → SaysPlanOf Is u run_answer
-  plan_of is u mean = done_found Is u run_answer (found u (says u mean (λ e. cc) (λ e. cc))) (r.judged.run.status_is ∙ is)
+  plan_of is u mean = done_found Is Tried u run_answer (says u mean (λ e. cc) (λ e. cc)).found (r.judged.run.status_is ∙ is)
 
   pub writes : result ≡ status.Done → (u : Update) → FilesMeanUpdate files names u → WritesPlanOf Is u old new
   writes is u mean =
@@ -286,10 +296,10 @@ module _ {Is : Update → Plan → Type 0} {SaysNone OfTrees : Update → Answer
 
   -- ---- whether there is a plan
 
-  module _ (Has : Update → Type 0) (has : (u : Update) (p : Plan) → Is u p → Has u) (not_none : (u : Update) (answer : Answer) → Has u → ¬ SaysNone u answer) where
+  module _ (Has : Update → Type 0) (has : (u : Update) (p : Plan) → Is u p → Has u) (good : (u : Update) → BothEndsAreGood u → Has u → Good u) (not_none : (u : Update) (answer : Answer) → Has u → ¬ SaysWhyNone Tried u answer) where
     pub done_at : (u : Update) → FilesMeanGoodEnds files names u → Has u → result ≡ status.Done
-    done_at u good there =
-        let is : run_answer.status ≡ status.Done = elim (of_good u good).found [
+    done_at u ends there =
+        let is : run_answer.status ≡ status.Done = elim (of_good u ends (good u ends.good there)).found [
           | inl v ↦ plan_status u run_answer v.plan v.says
           | inr v ↦ absurd (not_none u run_answer there v)
         ] in
@@ -306,27 +316,33 @@ module _ {Is : Update → Plan → Type 0} {SaysNone OfTrees : Update → Answer
 
   -- ---- why none was written
 
-  pub lack_tags : result ≡ status.TooFewTags → FilesLackTags files names
+  pub lack_tags : result ≡ status.TooFewTags → FilesLackTags Tried files names
   lack_tags is =
       let (u, mean) = meant r.judged.run status.TooFewTags (λ e. cc) is in
       let said = says u mean (λ e. cc) (λ e. cc) in
-      let v = few_found Is u run_answer (found u said) (r.judged.run.status_is ∙ is) in
+      let status_is = r.judged.run.status_is ∙ is in
+      let none = none_found Is Tried u run_answer status.TooFewTags (λ e. cc) said.found status_is in
+      let v = few_by_status u none.tried run_answer none.why status_is in
       record {
         update = u;
         mean = good_ends u mean said;
-        stuck = record { changes = v.stuck.changes; ends = v.stuck.ends };
+        tried = none.tried;
+        are_tried = none.are_tried;
         fewer = let need = v.few.need_is in let has = v.few.has_is in let fewer = v.few.fewer in omega (arith, need, has, fewer);
       }
 
-  pub lack_room : result ≡ status.TooSmall → FilesLackRoom files names
+  pub lack_room : result ≡ status.TooSmall → FilesLackRoom Tried files names
   lack_room is =
       let (u, mean) = meant r.judged.run status.TooSmall (λ e. cc) is in
       let said = says u mean (λ e. cc) (λ e. cc) in
-      let v = small_found Is u run_answer (found u said) (r.judged.run.status_is ∙ is) in
+      let status_is = r.judged.run.status_is ∙ is in
+      let none = none_found Is Tried u run_answer status.TooSmall (λ e. cc) said.found status_is in
+      let v = small_by_status u none.tried run_answer none.why status_is in
       record {
         update = u;
         mean = good_ends u mean said;
-        stuck = record { changes = v.stuck.changes; ends = v.stuck.ends };
+        tried = none.tried;
+        are_tried = none.are_tried;
         switch = v.switch;
         need = v.need;
         capacity = v.capacity;
@@ -334,41 +350,45 @@ module _ {Is : Update → Plan → Type 0} {SaysNone OfTrees : Update → Answer
       }
 
   -- where such a plan is one of two phases that fit
-  module _ (h : FilesLackTags files names) (fits : (p : Plan) → Is h.update p → FitsTwoPhase h.update.net h.update.old h.update.new) where
-    says_few : SaysTooFew h.update run_answer
-    says_few = elim (found h.update (of_good h.update h.mean)) [
+  module _ (h : FilesLackTags Tried files names) (good : Good h.update) (fits : (p : Plan) → Is h.update p → FitsTwoPhase h.update.net h.update.old h.update.new) where
+    none_few : SaysWhyNone Tried h.update run_answer
+    none_few = elim (of_good h.update h.mean good).found [
       | inl v ↦ absurd (fits_tags h.update (fits v.plan v.which) h.fewer)
-      | inr v ↦ few_of_none h.update run_answer h.fewer v
+      | inr v ↦ v
     ]
+
+    says_few : SaysTooFew h.update none_few.tried run_answer
+    says_few = few_of_none h.update none_few.tried run_answer h.fewer none_few.why
 
     pub too_few : result ≡ status.TooFewTags
     too_few = sym r.judged.run.status_is ∙ status_of run_answer _ _ says_few.answer_is
 
-    pub too_few_written : IsOneStuck → Appends old new (too_few_lines h.update.net (length h.update.net.vlans) (length (available_tags h.update.net)) (single_rounds h.stuck.changes))
+    pub too_few_written : IsOneTried Tried → Appends old new (too_few_lines h.update.net (length h.update.net.vlans) (length (available_tags h.update.net)) h.tried)
     too_few_written one =
         let v = says_few in
-        let changes = one (update_target h.update) h.update.old v.stuck.changes h.stuck.changes v.stuck.ends h.stuck.ends in
-        let rounds = v.stuck.rounds_are ∙ ap (λ cs. single_rounds cs) changes in
+        let rounds = one h.update none_few.tried h.tried none_few.are_tried h.are_tried in
         wrote r.judged.run _ (text_of run_answer _ _ v.answer_is
-        ∙ ap (λ n. too_few_lines h.update.net n v.has v.rounds) v.few.need_is
-        ∙ ap (λ n. too_few_lines h.update.net (length h.update.net.vlans) n v.rounds) v.few.has_is
+        ∙ ap (λ n. too_few_lines h.update.net n v.has none_few.tried) v.few.need_is
+        ∙ ap (λ n. too_few_lines h.update.net (length h.update.net.vlans) n none_few.tried) v.few.has_is
         ∙ ap (λ rs. too_few_lines h.update.net (length h.update.net.vlans) (length (available_tags h.update.net)) rs) rounds)
 
-  module _ (h : FilesLackRoom files names) (fits : (p : Plan) → Is h.update p → FitsTwoPhase h.update.net h.update.old h.update.new) where
-    says_small : SaysTooSmall h.update run_answer
-    says_small = elim (found h.update (of_good h.update h.mean)) [
+  module _ (h : FilesLackRoom Tried files names) (good : Good h.update) (fits : (p : Plan) → Is h.update p → FitsTwoPhase h.update.net h.update.old h.update.new) where
+    none_small : SaysWhyNone Tried h.update run_answer
+    none_small = elim (of_good h.update h.mean good).found [
       | inl v ↦ absurd (fits_room h.update h.switch h.need h.capacity (fits v.plan v.which) h.small)
-      | inr v ↦ small_of_none h.update run_answer h.switch h.need h.capacity h.small v
+      | inr v ↦ v
     ]
+
+    says_small : SaysTooSmall h.update none_small.tried run_answer
+    says_small = small_of_none h.update none_small.tried run_answer h.switch h.need h.capacity h.small none_small.why
 
     pub too_small : result ≡ status.TooSmall
     too_small = sym r.judged.run.status_is ∙ status_of run_answer _ _ says_small.answer_is
 
-    pub too_small_written : IsOneStuck → Appends old new (too_small_lines h.update.net h.switch h.need h.capacity (single_rounds h.stuck.changes))
+    pub too_small_written : IsOneTried Tried → Appends old new (too_small_lines h.update.net h.switch h.need h.capacity h.tried)
     too_small_written one =
         let v = says_small in
-        let changes = one (update_target h.update) h.update.old v.stuck.changes h.stuck.changes v.stuck.ends h.stuck.ends in
-        let rounds = v.stuck.rounds_are ∙ ap (λ cs. single_rounds cs) changes in
+        let rounds = one h.update none_small.tried h.tried none_small.are_tried h.are_tried in
         wrote r.judged.run _ (text_of run_answer _ _ v.answer_is
-        ∙ small_lines_same h.update.net h.update.old h.update.new v.switch h.switch v.need v.capacity h.need h.capacity v.rounds v.small h.small
+        ∙ small_lines_same h.update.net h.update.old h.update.new v.switch h.switch v.need v.capacity h.need h.capacity none_small.tried v.small h.small
         ∙ ap (λ rs. too_small_lines h.update.net h.switch h.need h.capacity rs) rounds)

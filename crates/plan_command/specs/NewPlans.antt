@@ -63,18 +63,20 @@ FilesHavePlan files names = FilesHave HasPlan files names
 abbrev pub RefusesBadEnds : Files → UpdateNames → Option (List ℕ) → Option (List ℕ) → Status → Type 0
 RefusesBadEnds files names old new result = RefusalPromise (FilesMeanUpdate files names) update_count BothEndsAreGood IsEndLine old new result
 
--- the files mean an update with good ends whose search ends stuck, and there are too few tags
-pub record FilesLackTags (files : Files) (names : UpdateNames) : Type 0 where
+-- the files mean an update with good ends, such rounds are tried before two phases, and there are too few tags
+pub record FilesLackTags (Tried : Update → List (List Change) → Type 0) (files : Files) (names : UpdateNames) : Type 0 where
   pub update : Update
   pub mean : FilesMeanGoodEnds files names update
-  pub stuck : IsStuck update
+  pub tried : List (List Change)
+  pub are_tried : Tried update tried
   pub fewer : length (available_tags update.net) < length update.net.vlans
 
--- the files mean an update with good ends whose search ends stuck, there are enough tags, and a switch is too small
-pub record FilesLackRoom (files : Files) (names : UpdateNames) : Type 0 where
+-- the files mean an update with good ends, such rounds are tried before two phases, there are enough tags, and a switch is too small
+pub record FilesLackRoom (Tried : Update → List (List Change) → Type 0) (files : Files) (names : UpdateNames) : Type 0 where
   pub update : Update
   pub mean : FilesMeanGoodEnds files names update
-  pub stuck : IsStuck update
+  pub tried : List (List Change)
+  pub are_tried : Tried update tried
   pub switch : SwitchId
   pub need : ℕ
   pub capacity : ℕ

@@ -31,28 +31,30 @@ pub record SaysPlanOf (Is : Update → Plan → Type 0) (u : Update) (answer : A
   pub consistent : IsConsistent u plan.rounds (is_two_phase plan.evidence)
   pub classes : HasSameClasses (classes_for (task_for u plan)) (update_classes u)
 
--- the search ended stuck, and there are too few tags
-pub record SaysTooFew (u : Update) (answer : Answer) : Type 0 where
-  pub rounds : List (List Change)
-  pub stuck : AreStuck (update_target u) u.old rounds
+-- there are too few tags for two phases; these rounds were tried before
+pub record SaysTooFew (u : Update) (tried : List (List Change)) (answer : Answer) : Type 0 where
   pub need : ℕ
   pub has : ℕ
   pub few : AreTooFew u.net need has
-  pub answer_is : answer ≡ record { status = status.TooFewTags; text = too_few_lines u.net need has rounds }
+  pub answer_is : answer ≡ record { status = status.TooFewTags; text = too_few_lines u.net need has tried }
 
--- the search ended stuck, there are enough tags, and a switch is too small
-pub record SaysTooSmall (u : Update) (answer : Answer) : Type 0 where
-  pub rounds : List (List Change)
-  pub stuck : AreStuck (update_target u) u.old rounds
+-- there are enough tags, and a switch is too small for two phases; these rounds were tried before
+pub record SaysTooSmall (u : Update) (tried : List (List Change)) (answer : Answer) : Type 0 where
   pub switch : SwitchId
   pub need : ℕ
   pub capacity : ℕ
   pub small : IsFirstTooSmall u.net u.old u.new switch need capacity
-  pub answer_is : answer ≡ record { status = status.TooSmall; text = too_small_lines u.net switch need capacity rounds }
+  pub answer_is : answer ≡ record { status = status.TooSmall; text = too_small_lines u.net switch need capacity tried }
 
--- why there is no plan of a search that ended stuck
-abbrev pub SaysWhyNone : Update → Answer → Type 0
-SaysWhyNone u answer = SaysTooFew u answer ⊎ SaysTooSmall u answer
+-- two phases don't fit; these rounds were tried before
+abbrev pub SaysNoPhases : Update → List (List Change) → Answer → Type 0
+SaysNoPhases u tried answer = SaysTooFew u tried answer ⊎ SaysTooSmall u tried answer
+
+-- why there is no plan: two phases don't fit, and such rounds were tried before
+pub record SaysWhyNone (Tried : Update → List (List Change) → Type 0) (u : Update) (answer : Answer) : Type 0 where
+  pub tried : List (List Change)
+  pub are_tried : Tried u tried
+  pub why : SaysNoPhases u tried answer
 
 -- there are few enough classes, both ends are good, and the answer is such a plan or says that there is none; on an update of
 -- destination trees this holds besides
@@ -79,9 +81,13 @@ pub record IsTwoPhasePlan (u : Update) (p : Plan) : Type 0 where
 abbrev pub IsNewPlan : Update → Plan → Type 0
 IsNewPlan u p = IsPlanOf (update_target u) u.old p ⊎ IsTwoPhasePlan u p
 
+-- the rounds of a search that ended stuck
+abbrev pub AreSearched : Update → List (List Change) → Type 0
+AreSearched u tried = AreStuck (update_target u) u.old tried
+
 -- what the search leads to: a new plan, or why there is none
 abbrev pub SaysSearched : Update → Answer → Type 0
-SaysSearched u answer = SaysPlanOf IsNewPlan u answer ⊎ SaysWhyNone u answer
+SaysSearched u answer = SaysPlanOf IsNewPlan u answer ⊎ SaysWhyNone AreSearched u answer
 
 -- the answer is the text of an ordered plan: that of the search, with one round for each rule that is replaced
 pub record SaysOrdered (u : Update) (answer : Answer) : Type 0 where
@@ -93,4 +99,4 @@ pub record SaysOrdered (u : Update) (answer : Answer) : Type 0 where
 -- the answer on an update: too many classes, an end that isn't good, or what the search leads to, which is an ordered plan on one of
 -- destination trees
 abbrev pub IsPlanned : Update → Answer → Type 0
-IsPlanned u answer = IsPlanAnswer IsNewPlan SaysWhyNone SaysOrdered u answer
+IsPlanned u answer = IsPlanAnswer IsNewPlan (SaysWhyNone AreSearched) SaysOrdered u answer

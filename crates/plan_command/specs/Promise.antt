@@ -3,7 +3,6 @@ use Rattle.std.specs.Prelude.{◌≡◌, ◌↔◌, ◌≤◌, ℕ, List, length
 use Rattle.std.specs.Io.KnownBytes.{Appends}
 use Rattle.file_access.specs.Outside.{Files}
 use Rattle.certificates.specs.declared.Plan.{Plan}
-use Rattle.round_planner.specs.Search.{single_rounds}
 use Rattle.round_planner.specs.Updates.{KeepsConsistent}
 use Rattle.tag_allocator.specs.Tags.{available_tags}
 use Rattle.command_base.specs.declared.status.Status.{Status}
@@ -17,7 +16,7 @@ use Rattle.command_base.specs.Runs.{IsComplete}
 use Rattle.check_base.specs.Checks.{FilesAreCertified}
 use Rattle.plan_command.specs.NoPlanLines as lines
 use Rattle.plan_command.specs.NewPlans.{FilesHavePlan, FilesLackTags, FilesLackRoom, FilesMeanTrees, WritesPlanOf, WritesOrderedPlan, RefusesBadEnds, HoldBeside}
-use Rattle.plan_command.specs.Planned.{IsNewPlan}
+use Rattle.plan_command.specs.Planned.{IsNewPlan, AreSearched}
 
 -- the files and their names, what was written before and after the run, and how it ended
 pub record PlanPromise (files : Files) (names : UpdateNames) (old new : Option (List ℕ)) (result : Status) : Type 0 where
@@ -39,9 +38,9 @@ pub record PlanPromise (files : Files) (names : UpdateNames) (old new : Option (
   pub refusals : RefusesBadEnds files names old new result
   -- Too few tags, and a switch that is too small, come exactly where the search ended stuck; the lines have the numbers and the
   -- rounds of the search.
-  pub too_few : IsComplete result → ((result ≡ status.TooFewTags) ↔ FilesLackTags files names)
-  pub too_few_lines : IsComplete result → (lack : FilesLackTags files names)
-      → Appends old new (lines.too_few_lines lack.update.net (length lack.update.net.vlans) (length (available_tags lack.update.net)) (single_rounds lack.stuck.changes))
-  pub too_small : IsComplete result → ((result ≡ status.TooSmall) ↔ FilesLackRoom files names)
-  pub too_small_lines : IsComplete result → (lack : FilesLackRoom files names)
-      → Appends old new (lines.too_small_lines lack.update.net lack.switch lack.need lack.capacity (single_rounds lack.stuck.changes))
+  pub too_few : IsComplete result → ((result ≡ status.TooFewTags) ↔ FilesLackTags AreSearched files names)
+  pub too_few_lines : IsComplete result → (lack : FilesLackTags AreSearched files names)
+      → Appends old new (lines.too_few_lines lack.update.net (length lack.update.net.vlans) (length (available_tags lack.update.net)) lack.tried)
+  pub too_small : IsComplete result → ((result ≡ status.TooSmall) ↔ FilesLackRoom AreSearched files names)
+  pub too_small_lines : IsComplete result → (lack : FilesLackRoom AreSearched files names)
+      → Appends old new (lines.too_small_lines lack.update.net lack.switch lack.need lack.capacity lack.tried)

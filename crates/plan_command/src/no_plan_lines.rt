@@ -9,8 +9,8 @@ use std::alloc::Global;
 use topology::Net;
 use update_model::Rounds;
 
-/// The rounds that were tried.
-fn tried_line(alloc: Global, net: &Net, tried: &Rounds) -> Result<Vec<u8>, Memory>
+/// The line of the rounds that were tried.
+pub fn tried_line(alloc: Global, net: &Net, tried: &Rounds) -> Result<Vec<u8>, Memory>
     ensures { IfOk result (λ t. t.items ≡ lines.tried_line net.now tried.now) }
 {
     let mut text = b"tried: ".to_vec(alloc)?;

@@ -15,7 +15,7 @@ ghost use Rattle.command_base.specs.Updates.{meaning_of};
 ghost use Rattle.command_base.specs.Replies.{answer_of};
 ghost use Rattle.upgrade_command.specs.Texts.{SaysPlan};
 ghost use Rattle.plan_command.specs.Ends.{BothEndsAreGood, AreEndsOf};
-ghost use Rattle.plan_command.specs.Planned.{SaysPlanOf, IsNewPlan, SaysOrdered, SaysWhyNone, SaysSearched, IsPlanned};
+ghost use Rattle.plan_command.specs.Planned.{SaysPlanOf, IsNewPlan, SaysOrdered, SaysNoPhases, SaysSearched, IsPlanned};
 
 use crate::ends::{EndsVerdict, GoodEnds, judge_ends};
 use crate::no_plan_lines::{too_few_lines, too_small_lines};
@@ -45,7 +45,7 @@ fn new_plan_reply(alloc: Global, files: &UpdateFiles, plan: &Plan) -> Result<Rep
     plan_reply(alloc, &files.net, plan)
 }
 
-/// The reply where there are no two phases after a search that was stuck: on too few tags, or on the first switch that is too
+/// The reply where there are no two phases, after the rounds that were tried: on too few tags, or on the first switch that is too
 /// small.
 pub fn no_plan_reply(
     alloc: Global,
@@ -53,11 +53,9 @@ pub fn no_plan_reply(
     tried: &Rounds,
     fault: TwoFault,
 ) -> Result<Reply, Memory>
-    requires stuck { AreStuck (update_target (meaning_of files.now)) (rules_of_all files.now.old)
-        tried.now }
-    requires cause { IsTwoCause files.now.net (rules_of_all files.now.old)
-        (rules_of_all files.now.new) fault }
-    ensures { IfOk result (λ r. SaysWhyNone (meaning_of files.now) (answer_of r)) }
+    requires { IsTwoCause files.now.net (rules_of_all files.now.old) (rules_of_all files.now.new)
+        fault }
+    ensures { IfOk result (λ r. SaysNoPhases (meaning_of files.now) tried.now (answer_of r)) }
 {
     match fault {
         TwoFault::TooFewTags { need, has } => Ok(Reply {

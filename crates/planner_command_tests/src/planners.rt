@@ -3,16 +3,26 @@ use check_base::CheckNames;
 use check_command::check;
 use command_base::Status;
 use example_files::{Answer, UpdateTexts, answer_of, update_names, update_source};
-use pack_command::pack;
+use pack_command::{PackKind, PackNames, pack};
 use plan_command::plan;
 use std::alloc::Global;
 use std::process::Abort;
 
-/// A command that plans an update.
+/// A command that plans an update: `plan`, or `pack` without KIND or with one.
 #[derive(Clone, Copy)]
 pub(crate) enum Planner {
     Plan,
     Pack,
+    PackOrdered,
+    PackTwoPhase,
+}
+
+/// The names of an update for `pack`, with a kind.
+fn pack_names(kind: PackKind) -> PackNames<'static> {
+    PackNames {
+        files: update_names(),
+        kind,
+    }
 }
 
 /// What the command answers, where the call of the given number fails.
@@ -25,11 +35,13 @@ pub(crate) fn answer_by(
 ) -> Answer {
     let source = update_source(alloc, texts, b"", 4096, failing);
     let mut source = source.expect(rt, "a source");
-    let names = update_names();
-    match planner {
-        Planner::Plan => answer_of(alloc, plan(alloc, &mut source, &names)),
-        Planner::Pack => answer_of(alloc, pack(alloc, &mut source, &names)),
-    }
+    let kind = match planner {
+        Planner::Plan => return answer_of(alloc, plan(alloc, &mut source, &update_names())),
+        Planner::Pack => PackKind::Any,
+        Planner::PackOrdered => PackKind::Ordered,
+        Planner::PackTwoPhase => PackKind::TwoPhase,
+    };
+    answer_of(alloc, pack(alloc, &mut source, &pack_names(kind)))
 }
 
 /// What `check` answers to the update and the plan.

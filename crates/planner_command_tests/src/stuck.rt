@@ -1,6 +1,8 @@
 //! Updates in which only one of packing and the search ends ordered, in a ring of four switches: packets enter at s, l and r are
 //! beside it, and t is opposite.
 use example_files::UpdateTexts;
+use net_base::Memory;
+use std::alloc::Global;
 
 /// The ring, with tags.
 fn ring() -> &'static [u8] {
@@ -22,11 +24,6 @@ fn by_the_right() -> &'static [u8] {
     br#"{"rules":[{"switch":"l","priority":100,"dst":"10.0.0.0/24","out":2},{"switch":"r","priority":100,"dst":"10.0.0.0/24","out":2},{"switch":"s","priority":100,"dst":"10.0.0.0/24","out":3},{"switch":"t","priority":100,"dst":"10.0.0.0/24","out":1}]}"#
 }
 
-/// The same, and s has rules for four other prefixes.
-fn by_the_right_and_more() -> &'static [u8] {
-    br#"{"rules":[{"switch":"l","priority":100,"dst":"10.0.0.0/24","out":2},{"switch":"r","priority":100,"dst":"10.0.0.0/24","out":2},{"switch":"s","priority":100,"dst":"10.0.0.0/24","out":3},{"switch":"t","priority":100,"dst":"10.0.0.0/24","out":1},{"switch":"s","priority":100,"dst":"10.0.1.0/24","out":2},{"switch":"s","priority":100,"dst":"10.0.2.0/24","out":2},{"switch":"s","priority":100,"dst":"10.0.3.0/24","out":2},{"switch":"s","priority":100,"dst":"10.0.4.0/24","out":2}]}"#
-}
-
 /// The change at s can't stand beside those at l and r, which come first, so the first packed round takes all others; then l and t
 /// send to one another, and s can't change any more. The search changes s between the delete and the insert at t.
 pub(crate) fn packing() -> UpdateTexts<'static> {
@@ -44,19 +41,40 @@ pub(crate) fn packing_plan() -> &'static [u8] {
 "#
 }
 
-/// The same with four inserts more, so that the plan of the search has nine rounds.
-pub(crate) fn longer_packing() -> UpdateTexts<'static> {
-    UpdateTexts {
-        new: by_the_right_and_more(),
-        ..packing()
-    }
+/// The same with inserts at s for so many other prefixes, so that the plan of the search has as many rounds more.
+#[derive(Drop)]
+pub struct LongerPacking {
+    new: Vec<u8>,
 }
 
-/// The same without tags.
-pub(crate) fn longer_packing_without_tags() -> UpdateTexts<'static> {
-    UpdateTexts {
-        topology: ring_without_tags(),
-        ..longer_packing()
+impl LongerPacking {
+    pub fn make(alloc: Global, prefixes: u32) -> Result<LongerPacking, Memory> {
+        let right =
+            r#"{"switch":"l","priority":100,"dst":"10.0.0.0/24","out":2},{"switch":"r","priority":100,"dst":"10.0.0.0/24","out":2},{"switch":"s","priority":100,"dst":"10.0.0.0/24","out":3},{"switch":"t","priority":100,"dst":"10.0.0.0/24","out":1}"#;
+        let mut rules = String::from_str(alloc, right)?;
+        for i in 1..=prefixes {
+            let head = format!(in alloc; ",{{\"switch\":\"s\",\"priority\":100,")?;
+            rules.push_str(&format!(in alloc; "{head}\"dst\":\"10.0.{i}.0/24\",\"out\":2}}")?)?;
+        }
+        Ok(LongerPacking {
+            new: format!(in alloc; "{{\"rules\":[{rules}]}}")?.into_bytes(),
+        })
+    }
+
+    /// Its update, in the ring with tags.
+    pub fn update(&self) -> UpdateTexts<'_> {
+        UpdateTexts {
+            new: &self.new,
+            ..packing()
+        }
+    }
+
+    /// Its update, in the ring without tags.
+    pub fn update_without_tags(&self) -> UpdateTexts<'_> {
+        UpdateTexts {
+            topology: ring_without_tags(),
+            ..self.update()
+        }
     }
 }
 

@@ -7,6 +7,7 @@ use Rattle.command_base.specs.Dialogues.{Dialogue, Ends, and_then}
 use Rattle.config_command.specs.Names as config
 use Rattle.check_base.specs.Names as check
 use Rattle.command_base.specs.Names as base
+use Rattle.pack_command.specs.Names as pack
 use Rattle.replay_command.specs.Names as replay
 use Rattle.trace_command.specs.Names as trace
 use Rattle.simulate_command.specs.Names as simulate
@@ -22,6 +23,7 @@ use Rattle.replay_command.specs.Replayed.{ReplayMeaning, replay_dialogue, IsRepl
 use Rattle.trace_command.specs.Traced.{TraceMeaning, trace_dialogue, IsTraceAnswer}
 use Rattle.import_command.specs.Imported.{ImportMeaning, import_dialogue, IsImportAnswer}
 use Rattle.drive_command.specs.Driven.{DriveMeaning, drive_dialogue, IsDriveAnswer}
+use Rattle.pack_command.specs.declared.names.PackKind.{PackKind}
 use Rattle.paths_command.specs.Listed.{IsPathsAnswer}
 use Rattle.check_command.specs.Checks.{IsCheckAnswer}
 use Rattle.certify_command.specs.Answers.{IsCertifyAnswer}
@@ -46,7 +48,7 @@ pub data Asked : Type 0 where
   Check : check.CheckNames → Asked
   Certify : check.CheckNames → Asked
   Plan : base.UpdateNames → Asked
-  Pack : base.UpdateNames → Asked
+  Pack : pack.PackNames → Asked
   Upgrade : base.PlanNames → Asked
   Emit : base.PlanNames → Asked
   Replay : replay.ReplayNames → Asked
@@ -88,7 +90,7 @@ asked_by command_name.Paths words = option_map Paths (config.names_in words)
 asked_by command_name.Check words = option_map Check (check.names_in words)
 asked_by command_name.Certify words = option_map Certify (check.names_in words)
 asked_by command_name.Plan words = option_map Plan (base.update_names_in words)
-asked_by command_name.Pack words = option_map Pack (base.update_names_in words)
+asked_by command_name.Pack words = option_map Pack (pack.names_in words)
 asked_by command_name.Upgrade words = option_map Upgrade (base.plan_names_in words)
 asked_by command_name.Emit words = option_map Emit (base.plan_names_in words)
 asked_by command_name.Replay words = option_map Replay (replay.names_in words)
@@ -118,7 +120,7 @@ asked_view (command.Paths names) = Paths (config.names_seen names)
 asked_view (command.Check names) = Check (check.names_seen names)
 asked_view (command.Certify names) = Certify (check.names_seen names)
 asked_view (command.Plan names) = Plan (base.names_seen names)
-asked_view (command.Pack names) = Pack (base.names_seen names)
+asked_view (command.Pack names) = Pack (pack.names_seen names)
 asked_view (command.Upgrade names) = Upgrade (base.plan_names_seen names)
 asked_view (command.Emit names) = Emit (base.plan_names_seen names)
 asked_view (command.Replay names) = Replay (replay.names_seen names)
@@ -138,7 +140,7 @@ pub data Ending : Type 0 where
   OfCheck : CheckMeaning → Ending
   OfCertify : CheckMeaning → Ending
   OfPlan : Update → Ending
-  OfPack : Update → Ending
+  OfPack : PackKind → Update → Ending
   OfUpgrade : PlanMeaning → Ending
   OfEmit : PlanMeaning → Ending
   OfReplay : ReplayMeaning → Ending
@@ -163,7 +165,7 @@ IsSaid (OfPaths m) answer = IsPathsAnswer m answer
 IsSaid (OfCheck m) answer = IsCheckAnswer m answer
 IsSaid (OfCertify m) answer = IsCertifyAnswer m answer
 IsSaid (OfPlan u) answer = IsPlanned u answer
-IsSaid (OfPack u) answer = IsPacked u answer
+IsSaid (OfPack kind u) answer = IsPacked kind u answer
 IsSaid (OfUpgrade m) answer = IsUpgradeAnswer m answer
 IsSaid (OfEmit m) answer = IsEmitAnswer m answer
 IsSaid (OfReplay m) answer = IsReplayAnswer m answer
@@ -184,7 +186,7 @@ dialogue_of (Paths names) = and_then (config_dialogue names) (λ m. Ends (OfPath
 dialogue_of (Check names) = and_then (check_dialogue names) (λ m. Ends (OfCheck m))
 dialogue_of (Certify names) = and_then (check_dialogue names) (λ m. Ends (OfCertify m))
 dialogue_of (Plan names) = and_then (reading_update names) (λ u. Ends (OfPlan u))
-dialogue_of (Pack names) = and_then (reading_update names) (λ u. Ends (OfPack u))
+dialogue_of (Pack names) = and_then (reading_update names.files) (λ u. Ends (OfPack names.kind u))
 dialogue_of (Upgrade names) = and_then (reading_plan_files names) (λ m. Ends (OfUpgrade m))
 dialogue_of (Emit names) = and_then (reading_plan_files names) (λ m. Ends (OfEmit m))
 dialogue_of (Replay names) = and_then (replay_dialogue names) (λ m. Ends (OfReplay m))

@@ -7,6 +7,7 @@ use command_base::{PlanNames, UpdateNames, plan_names, update_names};
 use config_command::{ConfigNames, config_names};
 use drive_command::{DriveNames, drive_names};
 use import_command::{ImportNames, import_names};
+use pack_command::{PackNames, pack_names};
 use replay_command::{ReplayNames, replay_names};
 use sample_command::{RingSize, ring_size};
 use simulate_command::{SimulateNames, simulate_names};
@@ -20,7 +21,7 @@ pub enum Command<'a> {
     Check(CheckNames<'a>),
     Certify(CheckNames<'a>),
     Plan(UpdateNames<'a>),
-    Pack(UpdateNames<'a>),
+    Pack(PackNames<'a>),
     Upgrade(PlanNames<'a>),
     Emit(PlanNames<'a>),
     Replay(ReplayNames<'a>),
@@ -92,7 +93,7 @@ fn asked_by(name: CommandName, words: &[String]) -> Option<Command<'_>>
         CommandName::Check => check_names(words).map(Command::Check),
         CommandName::Certify => check_names(words).map(Command::Certify),
         CommandName::Plan => update_names(words).map(Command::Plan),
-        CommandName::Pack => update_names(words).map(Command::Pack),
+        CommandName::Pack => pack_names(words).map(Command::Pack),
         CommandName::Upgrade => plan_names(words).map(Command::Upgrade),
         CommandName::Emit => plan_names(words).map(Command::Emit),
         CommandName::Replay => replay_names(words).map(Command::Replay),

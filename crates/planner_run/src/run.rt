@@ -12,6 +12,7 @@ ghost use Rattle.serve_command.specs.Stops.{input_name};
 ghost use Rattle.config_command.specs.Names.{ConfigNames};
 ghost use Rattle.check_base.specs.Names.{CheckNames};
 ghost use Rattle.command_base.specs.Names.{UpdateNames, PlanNames};
+ghost use Rattle.pack_command.specs.Names.{PackNames};
 ghost use Rattle.replay_command.specs.Names.{ReplayNames};
 ghost use Rattle.trace_command.specs.Names.{TraceNames};
 ghost use Rattle.simulate_command.specs.Names.{SimulateNames};
@@ -248,7 +249,7 @@ pub fn run<S: Source, K: Sink>(
     ensures plan { (files : Files) (names : UpdateNames) → S.held source.old ≡ Some files
         → asked_command (map string_bytes words.now) ≡ Some (Plan names)
         → PlanPromise files names (K.written sink.old) (K.written sink.new) result }
-    ensures pack { (files : Files) (names : UpdateNames) → S.held source.old ≡ Some files
+    ensures pack { (files : Files) (names : PackNames) → S.held source.old ≡ Some files
         → asked_command (map string_bytes words.now) ≡ Some (Pack names)
         → PackPromise files names (K.written sink.old) (K.written sink.new) result }
     ensures upgrade { (files : Files) (names : PlanNames) → S.held source.old ≡ Some files

@@ -14,5 +14,5 @@ returns c =
       few = c.requires.ends.few;
       good = c.requires.ends.good;
       found = said;
-      tree = λ tree. packs_in_few c.trees_are_never_stuck.ensures c.trees_take_few_rounds.ensures u c.keeps_rules.ensures c.requires.old c.requires.new tree (answer_of r) said;
+      tree = λ tree. packs_in_few c.trees_are_never_stuck.ensures c.trees_take_few_rounds.ensures u c.keeps_rules.ensures c.requires.old c.requires.new tree c.args.kind (answer_of r) said;
     })) c.found_reply.ensures

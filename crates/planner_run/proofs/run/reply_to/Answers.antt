@@ -19,7 +19,7 @@ pub returns-in-Plan-clause-meets : goal.returns-in-Plan-clause-meets
 returns-in-Plan-clause-meets g c = rw c.in-Plan.is (meets_as IsSaid OfPlan (λ m answer said. said) c.plan.ensures.meets)
 
 pub returns-in-Pack-clause-meets : goal.returns-in-Pack-clause-meets
-returns-in-Pack-clause-meets g c = rw c.in-Pack.is (meets_as IsSaid OfPack (λ m answer said. said) c.pack.ensures.meets)
+returns-in-Pack-clause-meets g c = rw c.in-Pack.is (meets_as IsSaid (OfPack c.in-Pack.names.kind) (λ m answer said. said) c.pack.ensures.meets)
 
 pub returns-in-Upgrade-clause-meets : goal.returns-in-Upgrade-clause-meets
 returns-in-Upgrade-clause-meets g c = rw c.in-Upgrade.is (meets_as IsSaid OfUpgrade (λ m answer said. said) c.upgrade.ensures.meets)

@@ -53,7 +53,7 @@ returns-clause-plan g c = λ files names tells asks.
 pub returns-clause-pack : goal.returns-clause-pack
 returns-clause-pack g c = λ files names tells asks.
     c.pack_promised.ensures files names _ _ _ (λ settled.
-    answered_as IsPacked IsSaid OfPack files (reading_update names) _ _ _ (λ m answer said. said) (answered _ _ _ _ _ files (Pack names) (c.respond.ensures.all (unserved (map string_bytes c.args.words.now) (Pack names) asks (λ none. none)) settled) tells asks))
+    answered_as (IsPacked names.kind) IsSaid (OfPack names.kind) files (reading_update names.files) _ _ _ (λ m answer said. said) (answered _ _ _ _ _ files (Pack names) (c.respond.ensures.all (unserved (map string_bytes c.args.words.now) (Pack names) asks (λ none. none)) settled) tells asks))
 
 pub returns-clause-upgrade : goal.returns-clause-upgrade
 returns-clause-upgrade g c = λ files names tells asks.
