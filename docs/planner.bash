@@ -11,7 +11,7 @@ _planner() {
         local options="--help -o --strict --quiet"
         case ${COMP_WORDS[1]} in
             collect) options="--switches --listen --patience $options" ;;
-            apply) options="--switches --listen --wait --ask --patience --resume --back --repair --take-over --no-mark $options" ;;
+            apply) options="--switches --listen --wait --ask --patience --resume --back --recover --repair --take-over --no-mark $options" ;;
             update) options="--switches --listen --wait --ask --patience --yes --dry-run $options" ;;
         esac
         mapfile -t COMPREPLY < <(compgen -W "$options" -- "${COMP_WORDS[COMP_CWORD]}")
