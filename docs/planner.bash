@@ -12,7 +12,7 @@ _planner() {
         case ${COMP_WORDS[1]} in
             pack) options="--wait $options" ;;
             collect) options="--switches --listen --patience $options" ;;
-            apply) options="--switches --listen --wait --ask --patience --resume --back --repair --take-over --no-mark $options" ;;
+            apply) options="--switches --listen --wait --ask --patience --resume --back --recover --repair --take-over --no-mark $options" ;;
             diff) options="--json $options" ;;
             links) options="--empty --json $options" ;;
             policy) options="--through --changed $options" ;;

@@ -221,6 +221,7 @@ OWN_OPTIONS = {
     "collect": [*CONNECTIONS, ("--patience SECONDS", "how long a switch may take (10 s)")],
     "apply": [*CONNECTIONS, *CARRYING_OUT, ("--resume", "goes on with the record of an earlier run"),
               ("--back", "goes on with it backwards: turns the round that runs, and undoes those that are settled, one by one, up to OLD"),
+              ("--recover", "makes a lost record anew from what the switches have, and goes on with it, forward or by --back"),
               ("--repair", "puts right what a switch doesn't have as it must have it, in place of stopping"),
               ("--take-over", "takes away the marks of other updates"), ("--no-mark", "puts no mark on the switches, and doesn't mind those of others")],
     "diff": [("--json", "writes JSON, for machines")],

@@ -2,7 +2,7 @@
 carries bytes.
 
     planner apply TOPOLOGY OLD NEW POLICY PLAN INPUT --switches FILE [--listen HOST:PORT] [--wait SECONDS | --ask] [--patience SECONDS]
-                  [--resume] [--back] [--repair] [--take-over] [--no-mark] [--strict] [--quiet]
+                  [--resume] [--back] [--recover] [--repair] [--take-over] [--no-mark] [--strict] [--quiet]
 
 FILE and --listen are those of `planner collect`. INPUT is the record of the update, a new file. `planner serve` stays beside this script for the whole run: it
 is given a line for each round that begins, for what the switches send, and for each session that is opened anew, and what it answers is sent. Each line is
@@ -14,6 +14,8 @@ and how far the update came.
     --ask               instead, a round begins when the operator presses Enter
     --patience SECONDS  how long a switch may be away, or may take for anything it is asked (60 s)
     --resume            go on with an INPUT that an earlier run left
+    --recover           where INPUT is lost: make it anew from what the switches have, and go on with it as by --resume or --back. It takes away the mark of
+                        the update: a controller that had put it is to stop
     --back              go on with it backwards: turn the round that runs, and undo those that are settled, one by one, up to OLD. Any update can be turned
                         back, also one that is done, after a failed session, and in the middle of a round; --resume then carries it out once more
     --repair            where a switch doesn't have what it must have, give it that, by messages of `planner emit`, in place of stopping
@@ -29,20 +31,26 @@ Exit status: 0 all rounds are settled and the switches have NEW, or with --back 
 what to do next; 2 wrong words; 3 warnings, with --strict: nothing was sent.
 """
 import argparse
+import math
 import os
+import re
 import select
+import shlex
 import sys
 import time
 
 from planner_tools import events, program
 from planner_tools.proved import How, look
-from planner_tools.switches import ends, openflow
+from planner_tools.switches import ends, openflow, under_way
 from planner_tools.switches.comparison import Comparison
 from planner_tools.switches.connections import Stop, Switches, host_and_port, progress, say
 from planner_tools.voice import TELLING
 
 # The exit status where warnings end it.
 WARNED = 3
+# The words by which a record is gone on with, as they stand in what is next; they take the place of those that were given.
+MODE_WORDS = ("--resume", "--back", "--recover", "--repair", "--take-over")
+MODES = re.compile(r"--(?:resume|back)(?: --(?:repair|take-over|recover|no-mark))*")
 # What to do after an error of a switch, by its type and code; then the update is taken up.
 AFTER_ERROR = {(3, 0): "make room in its table (entries for other traffic; the capacity in the topology has to leave them room)",
                (3, 2): "let this controller change its table", (1, 5): "let this controller change its table: has another one made itself its master?"}
@@ -50,6 +58,8 @@ AFTER_ERROR = {(3, 0): "make room in its table (entries for other traffic; the c
 
 class Update(Comparison):
     """An update, round by round."""
+
+    slowest_told = 0.0       # the longest time for an answer that was told
 
     def run(self):
         begun = time.monotonic()
@@ -148,6 +158,18 @@ class Update(Comparison):
         time_left = "" if self.options.ask or not left else f"; {left} left, some {duration(each * left)}"
         is_undone = self.core.is_back and not self.core.is_running
         progress(f"round {self.core.settled + is_undone} of {self.core.rounds} is {'undone' if is_undone else 'settled'}{seconds}{time_left}")
+        self.tell_slow_answers()
+
+    def tell_slow_answers(self):
+        """Says that switches took long to answer, beside the wait: as long as an answer packets may be under way too. It is said again where that grows."""
+        (seconds, name), self.slowest = self.slowest, (0.0, None)
+        if self.options.ask or seconds <= self.options.wait / 2 or seconds <= 1.25 * self.slowest_told:
+            return
+        self.slowest_told = seconds
+        words = (f"{name} took {seconds:.1f} s to answer, more than {'the' if seconds > self.options.wait else 'half of the'} wait of {self.options.wait:g} s: where switches are that busy packets "
+                 f"may be under way for longer than it too, and be broken by the next round; --wait {math.ceil(2 * seconds)} would do")
+        self.record.remark(words)
+        progress(words)
 
     def after_refusal(self, status, text):
         go_on = "go on with --resume" if self.options.resume or self.record.starts else "begin again"
@@ -190,7 +212,7 @@ def duration(seconds):
     return f"{seconds:.0f} s" if seconds < 120 else f"{seconds / 60:.0f} min" if seconds < 7200 else f"{seconds / 3600:.1f} h"
 
 
-def stopped(update, options, why):
+def stopped(update, options, why, words):
     """Says in one line why it stopped, how far it came, and what to do next."""
     is_begun = options.resume or update is not None and update.record.starts
     go_on = "go on with --resume" if is_begun or update and update.core else "begin again"
@@ -207,18 +229,28 @@ def stopped(update, options, why):
         far = f"{update.record.starts} rounds were started by the record, and nothing was sent in this run"
     else:
         far = "nothing was sent in this run" if options.resume else "nothing was sent"
-    say(f"stopped: {what}; {far}. Next: {then}")
+    if update is not None:
+        note_end(update, options, f"stopped: {what}; {far}. Next: {then}")
+    say(f"stopped: {what}; {far}. Next: {then}{typed(words, then)}")
     events.tell("stopped", what=what, far=far, next=then)
-    if update is None:
-        return
+
+
+def note_end(update, options, words):
+    """Notes the end in the record; where nothing was begun, there is none."""
     if update.core is None and not options.resume:
-        update.record.remove()       # nothing was begun
+        update.record.remove()
         return
     try:
-        update.record.remark(f"stopped: {what}; {far}. Next: {then}")
+        update.record.remark(words)
         update.record.keep()
     except Stop:
         pass
+
+
+def typed(words, then):
+    """The command that does what is next, as it can be typed, behind the words that say it."""
+    found = MODES.search(then)
+    return f" (`{shlex.join(['planner', 'apply', *(word for word in words if word not in MODE_WORDS), *found[0].split()])}`)" if found else ""
 
 
 def other_ways(update, options, then):
@@ -240,6 +272,7 @@ def parser_of_words():
     parser.add_argument("--patience", metavar="SECONDS", type=float, default=60.0)
     parser.add_argument("--resume", action="store_true")
     parser.add_argument("--back", action="store_true")
+    parser.add_argument("--recover", action="store_true")
     parser.add_argument("--repair", action="store_true")
     parser.add_argument("--take-over", action="store_true")
     parser.add_argument("--no-mark", action="store_true")
@@ -269,12 +302,16 @@ def main(words, how=None):
     try:
         if is_ended_by_warnings(options, how or How(options.quiet, options.strict)):
             return WARNED
+        if options.recover:
+            options.resume, options.take_over = False, True      # where that ends it there is no record
+            under_way.recover(options)
+            options.resume = True
         update = Update(options)
         update.run()
         return 0
     except (Stop, OSError, KeyboardInterrupt) as why:
         ends.mind_no_signals()
-        stopped(update, options, why)
+        stopped(update, options, why, words)
         return 1
     finally:
         if update is not None:

@@ -30,6 +30,8 @@ from planner_tools.switches.expected import Answers
 # The xids of a run of questions: these, over a number of its own.
 FLOW_XID, EXTENDED_XID, BARRIER_XID = 1, 2, 3
 FIRST_RUN, RUNS = OWN + 0x1000, 0x3000
+# Priorities above this one are those of the entries that a two-phase plan makes.
+LAST_PRIORITY = 16383
 EVERY_PACKET = struct.pack("!I", 0x003FFFFF) + bytes(36)
 NICIRA = 0x2320
 
@@ -95,18 +97,38 @@ class Tables:
             answers.is_whole = True
         return True
 
+    def marks(self):
+        """The marks of updates, each with the switches that have it."""
+        found = {}
+        for name in self.names:
+            for mark in self.answers[name].marks():
+                found.setdefault(mark, []).append(name)
+        return found
+
+    def has_tagging_entries(self):
+        """Whether there are entries of the priorities that only two-phase plans use."""
+        return any(one.priority > LAST_PRIORITY and not one.oddity() for answers in self.answers.values() for one in answers.entries())
+
     def replies(self):
-        """The text of the file REPLIES. Where an entry must be refused, all such are said, and then it is Stop."""
-        lines, faults = [], []
+        """The text of the file REPLIES. Where an entry must be refused, all such are said, and then it is Stop. Those that an update under way has made are
+        counted alone."""
+        lines, faults, of_update = [], [], 0
+        marks = self.marks()
         for name in self.names:
             reading = Reading(name, self.answers[name].flow, self.answers[name].extended)
             lines += reading.lines
-            faults += reading.faults
+            faults += reading.faults if not marks else [one for one in reading.faults if one not in reading.of_update]
+            of_update += len(reading.of_update) if marks else 0
         for name, answers in self.answers.items():
             for mark in answers.marks() if not faults else ():
                 lines.append(f"# {name}: has the mark of an update at work, {mark}")
         for fault in faults:
             say(fault)
+        if of_update:
+            raise Stop(f"an update is under way: {', '.join(name for names in marks.values() for name in names)} {'has' if sum(map(len, marks.values())) == 1 else 'have'} its mark, "
+                       f"{'; '.join(map(str, marks))}; {of_update} entries are of its making, of priorities above {LAST_PRIORITY}, and can't be said in a configuration"
+                       f"{f'; {len(faults)} more stand above' if faults else ''}",
+                       "carry it on with its record by `planner apply .. RECORD --resume`, or turn it back by --back (--recover makes the record anew where it is lost); then ask again")
         if faults:
             raise Stop(f"{len(faults)} of the entries can't be said in a configuration: they stand above", "change them at the switches; docs/CONTROLLER.md says how")
         return "".join(f"{line}\n" for line in lines)
@@ -117,6 +139,7 @@ class Reading:
 
     def __init__(self, name, flow, extended):
         self.name, self.lines, self.faults = name, [], []
+        self.of_update = []          # those of the faults that speak of entries as a two-phase plan makes them
         self.tests, self.untagged, self.left_out = [], 0, {}
         try:
             for reply in flow:
@@ -138,6 +161,7 @@ class Reading:
             self.left_out[why] = self.left_out.get(why, 0) + 1
         elif entry.fault():
             self.faults.append(f"{self.name}: {entry}: {entry.fault()}")
+            self.of_update += self.faults[-1:] if entry.priority > LAST_PRIORITY and not entry.oddity() else []
         else:
             self.tests.append(entry.test())
             self.untagged += entry.has_tag_priority()

@@ -4,6 +4,7 @@ import struct
 import time
 
 from planner_tools.proved import say_why
+from planner_tools.switches import under_way
 from planner_tools.switches.collect import entry_at
 from planner_tools.switches.connections import Stop, progress, say
 from planner_tools.switches.conversation import REPAIR_BARRIER, REPAIR_XID, Conversation, temporary, write
@@ -47,15 +48,28 @@ class Comparison(Conversation):
         return found
 
     def mind_others(self, name, others):
-        """Another update has put its mark on a switch."""
-        if not self.options.take_over or any((name, mark) in self.taken_away for mark in others) and name not in self.owed:
+        """Another update has put its mark on a switch: it is Stop, or by --take-over it is taken away, once it is known that the update can go on."""
+        if not self.options.take_over or any((name, mark) in self.taken_away for mark in others):
+            record = under_way.record_near(self.options.input, others)
             raise Stop(f"another update is at work: {name} has its mark, {'; '.join(map(str, others))}",
-                       "wait for its end, then go on with --resume; where nothing is at work with it any more, --resume --take-over takes its mark away")
-        for mark in others:
-            self.taken_away.add((name, mark))
-            progress(f"{name}: the mark of the update {mark} is taken away")
-            self.record.remark(f"{name}: the mark of the update {mark} is taken away")
-        self.say_to(name, b"".join(mark.take_away() for mark in others), MARK_BARRIER)
+                       "wait for its end, then go on with --resume; where nothing is at work with it any more, --resume --take-over takes its mark away"
+                       + (f"; its record is {record}: with that one --resume carries it on, and --back turns it back" if record else ""))
+        self.foreign[name] = others
+
+    def can_go_on(self, found):
+        """Whether the update can go on from these differences: there are none, or they are put right."""
+        return not found or self.options.repair and all(one.can_be_repaired() for one in found)
+
+    def take_over(self):
+        """Takes away the marks of other updates, by --take-over. What they did until then is found when the tables are read again."""
+        for name, marks in self.foreign.items():
+            for mark in marks:
+                self.taken_away.add((name, mark))
+                progress(f"{name}: the mark of the update {mark} is taken away")
+                self.record.remark(f"{name}: the mark of the update {mark} is taken away")
+            self.say_to(name, b"".join(mark.take_away() for mark in marks), MARK_BARRIER)
+        while self.owed:
+            self.pump()
 
     def look_at_returned(self, connection):
         """A switch that has connected has answered the questions for its table. Where all switches are being read, it is compared with them."""
@@ -69,20 +83,22 @@ class Comparison(Conversation):
     def compare(self):
         """Asks every switch for its table, and compares. Whether nothing had to be put right; where something isn't as it must be it is Stop, or is put
         right, by --repair."""
-        is_first = True
-        for _ in range(TRIES + 1):
+        is_first, tries = True, 0
+        while True:
             found = self.read_all()
+            if self.foreign and self.can_go_on(found):
+                self.take_over()
+                continue
             if not found:
                 for answers in list(self.tables.answers.values()):
                     self.let_on(answers.connection)
                 self.compared_at = now_words()
                 return is_first
             self.tell_differences(found)
-            if not self.options.repair:
+            if not self.options.repair or tries == TRIES:
                 raise self.differs(found)
             self.repair(found)
-            is_first = False
-        raise self.differs(found)
+            is_first, tries = False, tries + 1
 
     def read_all(self):
         """The differences of all switches, which are asked now."""
@@ -95,6 +111,7 @@ class Comparison(Conversation):
         while found is None or not self.has_all():       # a switch that came back while a program ran has answered on a connection that is no more
             while not self.has_all():
                 self.pump()
+            self.foreign = {}
             found = [one for name in self.listed for one in self.differences(name)]
         self.is_reading = False
         self.suspects.clear()
@@ -111,6 +128,7 @@ class Comparison(Conversation):
     def differs(self, found):
         names = sorted({one.switch for one in found})
         what = f"{entries(len(found))} of {', '.join(names)} {'is' if len(found) == 1 else 'are'} not as they must be, and said above"
+        what += self.foreign_words()
         by_hand = [str(one) for one in found if not one.can_be_repaired()]
         if by_hand:
             return Stop(f"{what}; {entries(len(by_hand))} of them no message of a plan can reach, as {by_hand[0]}", "take these away at the switch by hand; then go on with --resume, or --resume --repair")
@@ -118,9 +136,18 @@ class Comparison(Conversation):
             return Stop(what, "go on with --resume --repair, which sends what is missing and takes away what is too much; or put it right by hand, and go on with --resume")
         return Stop(f"{what}. So the switches don't have the tables of {self.options.old}", self.before_the_beginning())
 
+    def foreign_words(self):
+        """That the marks of other updates stay where this one can't go on."""
+        marks = sorted({str(mark) for those in self.foreign.values() for mark in those})
+        return f". The mark of the update {'; '.join(marks)} stays: this one can't go on from what that one has made" if marks else ""
+
     def before_the_beginning(self):
         """What to do where the switches don't have OLD: the program says whether a plan can start from what they have."""
         repair = f"go on with --resume --repair, which gives the switches the tables of {self.options.old}"
+        if self.foreign:
+            record = under_way.record_near(self.options.input, [mark for those in self.foreign.values() for mark in those])
+            repair = (f"carry that update on with its own record{f', {record},' if record else ''} by --resume, or turn it back by --back (--recover makes its record anew where it is lost); or "
+                      f"go on with --resume --take-over --repair, which gives the switches the tables of {self.options.old}, entry by entry: packets may be dropped meanwhile")
         config = f"{self.options.input}.before.json"
         try:
             status, text = self.import_tables("before")

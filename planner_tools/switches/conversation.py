@@ -8,7 +8,7 @@ import time
 
 from planner_tools import events
 from planner_tools.proved import say_why
-from planner_tools.switches import openflow
+from planner_tools.switches import ends, openflow
 from planner_tools.switches.collect import Tables
 from planner_tools.switches.connections import OWN, Stop, lock, progress, read_switches
 from planner_tools.switches.marks import MARK_XID, Mark
@@ -19,6 +19,8 @@ from planner_tools.switches.served import Core, Ended, Serve, run_beside
 FED = (openflow.HELLO, openflow.ERROR, openflow.ECHO_REQUEST, openflow.BARRIER_REPLY)
 # Who hasn't answered yet is said so often while the patience lasts.
 TOLD = 12
+# Of a run of the program it is said at least so often, in seconds; and reading the files may take so many times the patience.
+TELL_PROGRAM, READING = 10.0, 10
 # How long the connection has to have stood on which the messages of a round are sent again, in seconds; with a shorter --wait that long.
 STANDS = 2.0
 REPAIR_XID, REPAIR_BARRIER = OWN + 0x20, OWN + 0x21
@@ -50,9 +52,13 @@ class Conversation:
         self.tables = Tables(list(self.listed))
         self.suspects = set()        # the switches that answered otherwise when they came back
         self.is_reading = False      # whether all switches are being read
-        self.taken_away = set()      # the marks of other updates that were taken away, each with its switch
+        self.foreign = {}            # by switch: the marks of other updates that were seen when all were read last
+        self.taken_away = set()      # those that were taken away, each with its switch
         self.owed = {}               # by switch: messages of this script that aren't answered, and the xid of the barrier request behind them
         self.cycles = []             # the seconds of each round of this run, with its wait
+        self.sent_at = {}            # by switch: when it was sent its last barrier request of a round
+        self.slowest = (0.0, None)   # how long the slowest answer to one took since the last round was told, and whose
+        self.program_since = None    # which command of the program is waited for, since when, for how long, and when that was said last
         self.settled_at = self.started_at = None
         self.sent_rounds = 0         # how many rounds this run has begun, in either way
         self.compared_at = self.record.last_compared and f"{self.record.last_compared}Z"      # when the tables were last as they must be
@@ -61,22 +67,55 @@ class Conversation:
 
     def ask(self, *words):
         """The exit status of a run of the program, and its text. What comes meanwhile is kept, and requests for an echo are answered."""
-        return run_beside(words, self.keep_listening)
+        self.wait_for_program(words[0])
+        try:
+            return run_beside(words, self.keep_listening)
+        finally:
+            self.program_since = None
 
     def keep_listening(self):
+        self.mind_program()
         if self.switches is None:
             time.sleep(0.002)
         else:
             self.events += self.switches.poll(0.005, quiet=0.0)
+
+    def mind_program(self):
+        """Tells that the program takes long, and ends where that lasts longer than the patience."""
+        if self.program_since is None:
+            return
+        command, since, most, told = self.program_since
+        now = time.monotonic()
+        if now - since > most:
+            raise Stop(f"the patience of {most:g} s is at its end: `planner {command}` hasn't answered",
+                       "see whether the machine is that busy (then --patience may be greater), or what holds up that program; then go on with --resume")
+        if now - told > min(TELL_PROGRAM, most / TOLD):
+            self.program_since = command, since, most, now
+            progress(f"{now - since:.0f} s: no answer yet from `planner {command}`")
+
+    def wait_for_program(self, command, times=1):
+        """From now on it is waited for the program, as long as the patience allows, so many times over."""
+        now = time.monotonic()
+        self.program_since = command, now, self.options.patience * times, now
+
+    def blocks(self, lines):
+        """The blocks of `planner serve` to some lines, each within the patience."""
+        self.wait_for_program("serve")
+        for block in self.serve.blocks(lines):
+            self.program_since = None
+            yield block
+            self.wait_for_program("serve")
+        self.program_since = None
 
     def open_core(self):
         """Begins `planner serve`, and gives it the lines of the record. What it says of those has been sent, or is said again behind `reopen`."""
         self.record.keep()
         self.serve, core = Serve(self.files, self.keep_listening), Core()
         lines = self.record.take_unfollowed()
+        self.wait_for_program("serve", READING)
         try:
             core.take("", self.serve.first())
-            for line, block in zip(lines, self.serve.blocks(lines)):
+            for line, block in zip(lines, self.blocks(lines)):
                 core.take(line, block)
         except Ended as end:
             say_why("check", *self.files, good=(0,))
@@ -96,7 +135,7 @@ class Conversation:
         self.record.keep()
         carried_out, undone, failures = self.core.carried_out, self.core.undone, self.core.failures
         try:
-            for line, block in zip(lines, self.serve.blocks(lines)):
+            for line, block in zip(lines, self.blocks(lines)):
                 events.tell_block(self.core, line, block, self.options.plan)
                 self.send(self.core.take(line, block))
                 if line in ("start", "back") and not block[-1].startswith("ok "):
@@ -119,6 +158,7 @@ class Conversation:
             one = self.switches.named.get(name) if self.switches else None
             if one is not None and one.is_good:
                 one.send(b"".join(those))
+                self.sent_at[name] = time.monotonic()
 
     def pump(self):
         """Notes what the switches sent, and sends what follows from it."""
@@ -126,6 +166,7 @@ class Conversation:
         for what, connection, message in events:
             self.take(what, connection, message)
         self.follow()
+        ends.see_that_it_is_heard()
         self.ask_again()
         self.mind_patience()
 
@@ -169,9 +210,15 @@ class Conversation:
         elif is_own(message):
             self.take_own(name, message)
         elif openflow.type_of(message) in FED and connection.is_good:
+            self.note_answer(name, message)
             self.record.feed(name, message)
         elif openflow.type_of(message) in FED:
             connection.kept.append(message)      # it is of the session that is opened by it
+
+    def note_answer(self, name, message):
+        """Notes how long a switch took to answer what it was sent of a round."""
+        if openflow.type_of(message) == openflow.BARRIER_REPLY and name in self.sent_at:
+            self.slowest = max(self.slowest, (time.monotonic() - self.sent_at.pop(name), name), key=lambda one: one[0])
 
     def take_own(self, name, message):
         """Takes an answer to a message of this script that isn't a question."""

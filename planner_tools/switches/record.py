@@ -8,6 +8,7 @@ import fcntl
 import hashlib
 import os
 import re
+import signal
 import time
 
 from planner_tools.switches import openflow
@@ -123,6 +124,14 @@ class Record:
     # ---- what is added
 
     def add(self, line):
+        """Appends a line. No signal ends that half-way."""
+        before = signal.pthread_sigmask(signal.SIG_BLOCK, (signal.SIGINT, signal.SIGTERM, signal.SIGHUP))
+        try:
+            self.append(line)
+        finally:
+            signal.pthread_sigmask(signal.SIG_SETMASK, before)
+
+    def append(self, line):
         line = line.encode("ascii", "replace").decode()
         total = sum_of(self.sum, line)
         rest = data = f"#{self.count + 1} {total}\n{line}\n".encode()

@@ -24,7 +24,7 @@ from planner_tools import network as nets
 from planner_tools import events, program, show
 from planner_tools.files import read_json
 from planner_tools.proved import How, answer_for, look, say_why
-from planner_tools.switches import apply, collect, connections, ends
+from planner_tools.switches import apply, collect, connections, ends, under_way
 from planner_tools.switches.connections import host_and_port, progress, say
 from planner_tools.update.summary import summary
 from planner_tools.voice import TELLING
@@ -138,7 +138,11 @@ class Update:
         asked = argparse.Namespace(topology=self.files["topology"], switches=self.options.switches, patience=self.options.patience,
                                    listen=host_and_port(self.options.listen) if self.options.listen else None)
         try:
-            return collect.read(asked).replies()
+            tables = collect.read(asked)
+            found = under_way.find(self.options.folder, tables, self.apply_line)
+            if found is not None:
+                raise Stopped("collect", found.what, found.then)
+            return tables.replies()
         except (connections.Stop, OSError) as stop:
             say(f"stopped: {stop}. Next: {getattr(stop, 'then', 'see to it, and ask again')}")
             raise Stopped("collect", "the lines above say why", "") from stop
@@ -197,10 +201,14 @@ class Update:
         if sys.stdin.readline().strip().lower() not in ("y", "yes"):
             raise Stopped("the question", "it isn't wanted", f"the plan stays in {self.path('plan.json')}")
 
-    def apply_words(self):
-        words = ["planner", "apply", *(self.path(f"{name}.json") for name in ("topology", "old", "new", "policy", "plan")), self.path("record")]
+    def apply_words(self, files=None, record=None):
+        """The words of `planner apply` for this update, or for the files and the record of another one."""
+        files = files or [self.path(f"{name}.json") for name in ("topology", "old", "new", "policy", "plan")]
         wait = ["--ask"] if self.options.ask else ["--wait", f"{self.options.wait:g}"]
-        return [*words, *self.connection_words(), *wait, "--patience", f"{self.options.patience:g}"]
+        return ["planner", "apply", *files, record or self.path("record"), *self.connection_words(), *wait, "--patience", f"{self.options.patience:g}"]
+
+    def apply_line(self, files, record):
+        return shlex.join(self.apply_words(files, record))
 
     def apply(self):
         """Carries the plan out. What stands in the way is said by `apply` itself; behind it come the lines to go on with and to turn back with."""

@@ -188,7 +188,7 @@ class Faults(UpdateTest):
         self.another(net)
         self.stops(net.apply(), "another update is at work", "--resume --take-over takes its mark away")
         self.stops(net.apply("--resume", "--take-over"), "So the switches don't have the tables of", "No plan can start from what they have: a configuration can't say it")
-        self.settles(net, net.apply("--resume", "--repair"))
+        self.settles(net, net.apply("--resume", "--take-over", "--repair"))
 
     def test_a_switch_that_refuses_the_mark_is_named(self):
         net = Network(self, "square", only={"s4": {"refuses": True}})

@@ -6,19 +6,21 @@ import pty
 import re
 import shlex
 import shutil
+import signal
 import subprocess
 import sys
+import time
 import unittest
 
 sys.path.insert(0, str(pathlib.Path(__file__).resolve().parents[2] / "switches" / "tests"))
 
-from network import EXAMPLES, FRONT_END, LONGEST, PLANNER, Network  # noqa: E402
+from network import EXAMPLES, FRONT_END, LONGEST, PLANNER, Network, heed_interrupts  # noqa: E402
 from planner_tools.update import summary  # noqa: E402
 
 FLOW_MESSAGE = bytes.fromhex("010e")
 
 
-class Updating(unittest.TestCase):
+class UpdateCommand(unittest.TestCase):
     def network(self, name="square", **more):
         """Switches with the old tables of an example, and the folder with the three files."""
         net = Network(self, name, **more)
@@ -65,6 +67,13 @@ class Updating(unittest.TestCase):
         path = net.wanted / f"{name}.json"
         path.write_text(json.dumps({**json.loads(path.read_text()), **members}))
 
+    def carry_out(self, words):
+        """Does a line that was said."""
+        done = subprocess.run([sys.executable, str(FRONT_END), *shlex.split(words)], capture_output=True, text=True, timeout=LONGEST, check=False, env={**os.environ, "PLANNER": PLANNER})
+        self.assertEqual(done.returncode, 0, done.stderr)
+
+
+class Updating(UpdateCommand):
     def test_both_examples_by_one_command(self):
         for name, words in (("square", "2 rounds with 2 changes at 2 of 4 switches: 2 replaced"), ("detour", "8 rounds")):
             with self.subTest(name):
@@ -213,11 +222,6 @@ class Updating(unittest.TestCase):
         self.assertIn("the session with s3 failed: Error 3 0", said)
         self.assertRegex(said.splitlines()[-1], r"^where the line above says to go on with --resume, this does it: planner apply .*/update-1/record .*--resume$")
 
-    def carry_out(self, words):
-        """Does a line that was said."""
-        done = subprocess.run([sys.executable, str(FRONT_END), *shlex.split(words)], capture_output=True, text=True, timeout=LONGEST, check=False, env={**os.environ, "PLANNER": PLANNER})
-        self.assertEqual(done.returncode, 0, done.stderr)
-
     def test_the_line_that_turns_an_update_back(self):
         for only, status in (({}, 0), ({"d": {"error_at": 3}}, 1)):
             with self.subTest(status=status):
@@ -234,6 +238,85 @@ class Updating(unittest.TestCase):
         net.switches["s3"].is_silent = False
         self.carry_out(said.splitlines()[-1].partition("this does it: planner ")[2])
         self.assertTrue(net.has(net.wanted / "new.json"))
+
+
+class UnderWay(UpdateCommand):
+    """A second run of `update` where an update is under way."""
+
+    def interrupted(self, net, round_):
+        """Ends an update by a key while a round runs, or waits to be begun."""
+        run = subprocess.Popen(self.words(net, "--yes", "--wait", "0.3"), stdin=subprocess.DEVNULL, stderr=subprocess.PIPE, text=True, env={**os.environ, "PLANNER": PLANNER},
+                               preexec_fn=heed_interrupts)
+        record, end = net.wanted / "update-1" / "record", time.monotonic() + LONGEST
+        while time.monotonic() < end and run.poll() is None and not (record.exists() and f"round {round_} starts" in record.read_text()):
+            time.sleep(0.01)
+        run.send_signal(signal.SIGINT)
+        said = run.communicate(timeout=LONGEST)[1]
+        self.assertIn("the operator ended it", said)
+        return record
+
+    def says(self, net, *words):
+        """What a second run says, which changes no table."""
+        before = sum(one.flow_messages + one.own_messages for one in net.switches.values())
+        status, said = self.run_it(net, "--yes")
+        self.assertEqual(status, 1, said)
+        last = said.splitlines()[-1]
+        for one in ("stopped at step 1 of 5, collect: an update is under way: ", "Nothing was sent. Next: ", *words):
+            self.assertIn(one, last)
+        self.assertLess(len(said.splitlines()), 8, said)
+        self.assertFalse((net.wanted / "update-2").exists())
+        self.assertEqual(sum(one.flow_messages + one.own_messages for one in net.switches.values()), before)
+        return dict(zip(("on", "back"), re.findall(r"`planner ([^`]*)`", last)))
+
+    def test_it_names_the_record_and_both_ways_on(self):
+        for name, round_, way, wanted in (("detour", 4, "on", "new"), ("detour", 6, "back", "old"), ("square", 2, "on", "new")):
+            with self.subTest(name, way=way):
+                net = self.network(name)
+                record = self.interrupted(net, round_)
+                self.change(net, "new", comment="somebody goes on with their work")
+                lines = self.says(net, " have its mark, ", f"; its record is {record}: ", " rounds are settled")
+                self.carry_out(lines[way])
+                self.assertTrue(net.has(EXAMPLES / name / f"{wanted}.json"))
+
+    def test_it_says_where_a_run_is_at_work(self):
+        net = self.network("detour", listen=True)
+        run = subprocess.Popen(self.words(net, "--yes", "--wait", "60"), stdin=subprocess.DEVNULL, stderr=subprocess.PIPE, text=True, env={**os.environ, "PLANNER": PLANNER})
+        for line in run.stderr:
+            if "the switches have the tables of" in line:
+                break
+        try:
+            self.says(net, f"; its record is {net.wanted}/update-1/record, and a run is at work with it", "wait for the end of that run")
+        finally:
+            run.kill()
+            run.communicate()
+
+    def test_where_the_record_is_lost_the_tables_say_how_far_it_came(self):
+        for round_, way, wanted in ((5, "on", "new"), (3, "back", "old")):
+            with self.subTest(way):
+                net = self.network("detour")
+                self.interrupted(net, round_).unlink()
+                lines = self.says(net, "Its record isn't in", "; by the tables of the switches ", " of 8 rounds are settled", "update-1/plan.json", "see that nothing is at work with it any more")
+                self.assertIn("--recover", lines[way])
+                self.carry_out(lines[way])
+                self.assertTrue(net.has(EXAMPLES / "detour" / f"{wanted}.json"))
+
+    def test_where_the_marks_are_gone_the_entries_say_it(self):
+        net = self.network("detour")
+        record = self.interrupted(net, 5)
+        for one in net.switches.values():
+            one.table = {key: it for key, it in one.table.items() if key[3] != 0x88B5}
+        lines = self.says(net, "the switches have the entries of ", f"; its record is {record}: ")
+        self.assertEqual(sorted(lines), ["back", "on"])
+
+    def test_where_all_is_lost_it_says_what_to_look_for(self):
+        net = self.network("detour")
+        record = self.interrupted(net, 5)
+        token = record.read_text().split()[4]
+        shutil.rmtree(record.parent)
+        net.switches["s"].table.popitem()
+        said = self.run_it(net, "--yes")[1]
+        self.assertIn("nor a plan whose tables these are", said)
+        self.assertIn(f"a file whose second line begins with `# update {token}`", said)
 
 
 class Summaries(unittest.TestCase):
