@@ -6,7 +6,8 @@ DIR has topology.json, new.json and policy.json. The steps are those that can be
 kept in a new folder in DIR, `update-1` and so on: `replies`, `old.json`, `plan.json`, and `record`, the record of the update. At the end stand the commands
 that go on with it, or turn it back to the tables that the switches had.
 
-Before the first change a summary is printed, and it is asked whether the plan may be carried out; --yes answers so, and --dry-run ends there.
+Before the first change a summary is printed, of the plan and of what changes for whom, and it is asked whether the plan may be carried out; --yes answers so,
+and --dry-run ends there.
 
 Exit status: 0 done, or nothing was to be done, or it was a dry run; 2 wrong words; otherwise that of the step that stopped it, which is named: 1 refused or not
 wanted, 3 a bad file, 4 too few tags, 5 too small a table, 6 and 7 a file can't be read or written.
@@ -20,6 +21,7 @@ import shlex
 import sys
 
 from planner_tools import program
+from planner_tools.intent import diff
 from planner_tools.switches import apply, collect
 from planner_tools.switches.connections import host_and_port
 from planner_tools.update.summary import summary
@@ -75,6 +77,8 @@ class Update:
             say(f"the switches have the tables of {self.files['new']} already: nothing is to be done")
             return 0
         for line in summary(plan, self.switches, None if self.options.ask else self.options.wait):
+            say(line)
+        for line in diff.summary(self.files["topology"], self.path("old.json"), self.files["new"], self.files["policy"]):
             say(line)
         if self.options.dry_run:
             say(f"a dry run ends here: nothing was sent. The plan is {self.path('plan.json')}")
