@@ -15,7 +15,7 @@ _planner() {
             apply) options="--switches --listen --wait --ask --patience --resume --back --recover --repair --take-over --no-mark $options" ;;
             diff) options="--json $options" ;;
             links) options="--empty --json $options" ;;
-            policy) options="--through --changed $options" ;;
+            policy) options="--through --changed --most $options" ;;
             route) options="--drain --weights --from $options" ;;
             update) options="--switches --listen --wait --ask --patience --yes --dry-run $options" ;;
         esac

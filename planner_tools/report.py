@@ -13,9 +13,11 @@ from planner_tools.voice import Voice
 FORMAT = 1
 # The commands that write events.
 WITH_EVENTS = ("apply", "update")
-# The command that has such an option of its own: its members stand beside the others.
-WITH_OPTION = "show"
+# The commands that have such an option of their own: their members stand beside the others.
+WITH_OPTION = ("diff", "links", "show")
 NOTHING, REFUSED = {}, 1
+# What status 1 of a command outside the proved program says, where nothing stopped it.
+ANSWERS_NO = {"links": "used"}
 
 
 def report(words, answer):
@@ -25,7 +27,7 @@ def report(words, answer):
     if name in WITH_EVENTS and "--help" not in others:
         return told(name, others, answer)
     report_of = Report(name)
-    status = report_of.run([*others, "--json"] if name == WITH_OPTION and "--help" not in others else others, answer)
+    status = report_of.run([*others, "--json"] if name in WITH_OPTION and "--help" not in others else others, answer)
     sys.stdout.write(json.dumps(report_of.values(status, output_of(others)), indent=1) + "\n")
     return status
 
@@ -143,13 +145,17 @@ class Report:
     def values(self, status, output):
         """The object."""
         reason, named = answers.reason_of(status, self.text) if self.asking else (None, None)
-        verdict = answers.verdict_of(self.name, status, self.text, self.said["warning"]) if self.asking else "stopped" if status == REFUSED else answers.verdict_of("", status)
-        own = self.own_values() if status == 0 and self.name == WITH_OPTION else NOTHING
+        verdict = answers.verdict_of(self.name, status, self.text, self.said["warning"]) if self.asking else self.own_verdict(status)
+        own = self.own_values() if status in (0, REFUSED) and self.name in WITH_OPTION else NOTHING
         is_written = output is not None and status == 0
         return {"format": FORMAT, "command": self.name, "status": status, "verdict": verdict, "reason": reason, "class": named, "paths": self.paths(status),
                 "places": [place for one in self.said["refusal"] for place in one["places"]], "warnings": self.said["warning"], "refusals": self.said["refusal"],
                 "notes": self.said["note"], "said": self.lines, "output": output if is_written else None,
                 "answer": None if is_written or own else answers.value_of(self.name, status, self.text), **own}
+
+    def own_verdict(self, status):
+        """The verdict of a command outside the proved program."""
+        return ANSWERS_NO.get(self.name, "stopped") if status == REFUSED else answers.verdict_of("", status)
 
     def own_values(self):
         try:

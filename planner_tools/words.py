@@ -161,7 +161,8 @@ FRONT = [
             "a policy made of what both configurations do: what arrives under both must arrive, by the waypoints of `--through` that both paths meet",
             "Writes a policy that both configurations keep: each class of packets that arrives under both must arrive, and has to meet those of the switches behind "
             "`--through`, which may stand several times, that both of its paths meet. The demands are put together to few. The classes that stay free are listed on the "
-            "error stream. With `--changed` it speaks of the classes alone whose paths differ.", False),
+            "error stream. With `--changed` it speaks of the classes alone whose paths differ; with `--most N` it has no more than N demands, those that speak of most "
+            "classes, and lists the others.", False),
     Command("route", "TOPO PREFIXES [--drain LINK] [--weights FILE] [--from CONFIG]",
             "a first draft of new rules: shortest paths from all hosts to where each prefix leaves, without what is drained, and like CONFIG where it can be",
             "Writes a configuration in which each prefix is sent on shortest paths from all hosts to the host port where it leaves, without the links and switches behind "
@@ -226,7 +227,8 @@ OWN_OPTIONS = {
               ("--take-over", "takes away the marks of other updates"), ("--no-mark", "puts no mark on the switches, and doesn't mind those of others")],
     "diff": [("--json", "writes JSON, for machines")],
     "links": [("--empty LINK", "asks whether nothing uses this link or switch"), ("--json", "writes JSON, for machines")],
-    "policy": [("--through SWITCH", "a switch that a class has to meet where both of its paths meet it"), ("--changed", "demands for those classes alone whose paths differ")],
+    "policy": [("--through SWITCH", "a switch that a class has to meet where both of its paths meet it"), ("--changed", "demands for those classes alone whose paths differ"),
+               ("--most N", "of more demands than N those that speak of most classes")],
     "route": [("--drain LINK", "a link or a switch that is to be empty"), ("--weights FILE", "the weight of each link"), ("--from CONFIG", "the rules now")],
     "update": [*CONNECTIONS, *CARRYING_OUT, ("--yes", "doesn't ask before the first change"), ("--dry-run", "ends before the first change")],
 }

@@ -12,10 +12,12 @@ import argparse
 import json
 
 from planner_tools import network as nets
+from planner_tools import program
 from planner_tools.files import counted
 from planner_tools.intent.asking import asked, done, files_of, network_of, rules_of
 from planner_tools.intent.classes import Beside, Paths, grouped, prefixes, range_words, ranges, shortened, vlan_value, vlan_words
 from planner_tools.intent.lookup import Tables
+from planner_tools.proved import Given, Stop
 
 # What may become of a class, in the order in which it is told: the word for machines, and words of the count.
 KINDS = {"lost": "arrive no more", "gained": "arrive now and didn't", "elsewhere": "leave at another host port", "way": "go another way", "stopped": "are stopped elsewhere"}
@@ -191,18 +193,28 @@ def one_rule(rule, network):
     return "no rule" if rule is None else f"{nets.match_words(rule)} {nets.action_words(rule, network)}, priority {rule['priority']}"
 
 
-def difference(files):
-    """What NEW changes, of files that the program reads."""
-    policy = files.get("POLICY")
-    listed = [Paths(asked("paths", (0, 1), TOPO=files["TOPO"], CONFIG=files[word], POLICY=policy)) for word in ("OLD", "NEW")]
+def difference(files, ask=asked):
+    """What NEW changes, of files that the program reads, given by the words TOPO, OLD, NEW and POLICY. `ask` gives what the program writes."""
+    listed = [Paths(ask("paths", (0, 1), TOPO=files["TOPO"], CONFIG=files[word], POLICY=files.get("POLICY"))) for word in ("OLD", "NEW")]
     return Difference(*listed, rules_of(files["OLD"]), rules_of(files["NEW"]))
 
 
-def summary(files, most=SUMMARY):
-    """What NEW changes for whom, in lines, of which there are not many: for whoever has to say whether the change is wanted. The files are given by the words
-    TOPO, OLD, NEW and POLICY."""
-    policy = files.get("POLICY")
-    return difference(files).lines(network_of(files["TOPO"]), policy.shown if policy is not None else None, most)
+def asked_silently(command, good, **files):
+    """What the program writes. Nothing is said of another status."""
+    status, text = program.run(command, *(file.real for file in files.values()))
+    if status not in good:
+        raise Stop(None, status)
+    return text
+
+
+def summary(topology, old, new, policy, most=SUMMARY):
+    """What the rules of a file change for whom, in lines, of which there are not many: for whoever is asked whether the change is wanted. Where the program
+    doesn't say it there are none."""
+    files = {word: Given(path, path) for word, path in (("TOPO", topology), ("OLD", old), ("NEW", new), ("POLICY", policy))}
+    try:
+        return difference(files, asked_silently).lines(network_of(files["TOPO"]), policy, most)
+    except (Stop, OSError):
+        return []
 
 
 def parser_of():

@@ -1,6 +1,6 @@
 """`planner policy`: a policy made of what both configurations of an update do.
 
-    planner policy TOPO OLD NEW [--through SWITCH].. [--changed]
+    planner policy TOPO OLD NEW [--through SWITCH].. [--changed] [--most N]
 
 Each class of packets that leaves the network under OLD and under NEW must arrive (`deliver`). Of the switches behind `--through` it has to meet those that both
 of its paths meet, in the order in which both meet them; where the orders differ, as many as agree, and each other one by itself. The demands are put together to
@@ -9,7 +9,7 @@ stream. With `--changed` there are demands for the classes alone whose paths dif
 
 Before the policy is written, `config` has accepted it over both configurations.
 
-Exit status: 0 written; 1 a configuration has no good path for some class, or it takes more demands than a policy has; 2 wrong words; 3, 6 and 9 as `config`.
+Exit status: 0 written; 1 a configuration has no good path for some class, or it takes more demands than a policy has and --most isn't given; 2 wrong words; 3, 6 and 9 as `config`.
 """
 import argparse
 import bisect
@@ -17,6 +17,7 @@ import itertools
 import json
 import tempfile
 
+from planner_tools import network as nets
 from planner_tools.files import counted, did_you_mean
 from planner_tools.intent.asking import asked, done, files_of, network_of
 from planner_tools.intent.classes import Beside, Paths, blocks, grouped, prefix_text, range_words, ranges, vlan_value, vlan_words
@@ -199,10 +200,24 @@ def named_switches(given, network):
     return frozenset(names)
 
 
-def refuse_too_many(demands, only_changed):
-    if len(demands) > MOST_DEMANDS:
+def kept_and_left(demands, most, both):
+    """The demands that are written, and those that are left out as there would be too many: of these each speaks of no more classes than any that is written.
+    Where it isn't said how many there may be, too many are Stop."""
+    if len(demands) <= (most or MOST_DEMANDS):
+        return demands, []
+    if most is None:
         raise Stop(f"it takes {len(demands)} demands, and a policy has at most {MOST_DEMANDS}: nothing is written", REFUSED,
-                   ["Next: give fewer switches with --through" + ("" if only_changed else ", or ask with --changed for the classes alone whose paths differ")])
+                   ["Next: ask with --changed for the classes alone whose paths differ, or with --most N for the N demands that speak of most classes"])
+    order = sorted(range(len(demands)), key=lambda at: (-classes_of(demands[at], both), at))
+    kept = set(order[:most])
+    return [demands[at] for at in sorted(kept)], [demands[at] for at in sorted(order[most:])]
+
+
+def classes_of(demand, both):
+    """Of how many classes a demand speaks, or of parts of how many."""
+    first, length = nets.prefix(demand["dst"])
+    begin, end = (bisect.bisect_right(both.firsts, at) for at in (first, first + (1 << 32 - length) - 1))
+    return (1 if "from" in demand else len(both.hosts)) * (1 if "vlan" in demand else len(both.vlans)) * (end - begin + 1)
 
 
 def good_paths(topology, config):
@@ -222,11 +237,19 @@ def judged(files, text):
             asked("config", TOPO=files["TOPO"], CONFIG=files[word], POLICY=Given(file.name, "the policy that was made"))
 
 
+def most(text):
+    if not text.isascii() or not text.isdigit() or not 1 <= int(text) <= MOST_DEMANDS:
+        raise argparse.ArgumentTypeError(f"{text!r} isn't a number from 1 to {MOST_DEMANDS}")
+    return int(text)
+
+
 def parser_of():
     parser = argparse.ArgumentParser(prog="planner policy", description="Writes a policy of what both configurations do: what arrives under both must arrive.")
     parser.add_argument("files", metavar="FILE", nargs="+", help="TOPO OLD NEW, or a folder in place of those that are left out")
     parser.add_argument("--through", metavar="SWITCH", action="append", default=[], help="a switch that a class has to meet where both of its paths meet it; several may be given, "
                         "also with commas")
+    parser.add_argument("--most", metavar="N", type=most, help=f"where it takes more demands than N, which is at most {MOST_DEMANDS}, those that speak of most classes are written, and "
+                        "the others are listed")
     parser.add_argument("--changed", action="store_true", help="demands for those classes alone whose paths differ")
     return parser
 
@@ -237,12 +260,20 @@ def work(words):
     both = Beside(*(good_paths(files["TOPO"], files[word]) for word in ("OLD", "NEW")))
     through = named_switches(given.through, network_of(files["TOPO"]))
     wanted = Wanted(both, through, given.changed)
-    demands = demands_of(wanted)
-    refuse_too_many(demands, given.changed)
+    demands, left = kept_and_left(demands_of(wanted), given.most, both)
     text = policy_text(demands)
     judged(files, text)
     say(wanted, demands, through)
+    if left:
+        Voice().warn(f"{counted(len(left), 'demand')} more would be needed, and {'is' if len(left) == 1 else 'are'} left out:", ["  " + demand_words(one) for one in left])
     return 0, text
+
+
+def demand_words(demand):
+    """For which packets a demand speaks, and what it asks, in words."""
+    through = f", by {', '.join(demand['through'])}" if "through" in demand else ""
+    vlan = f", {nets.vlan_words(demand['vlan'])}" if "vlan" in demand else ""
+    return f"from {demand.get('from', 'any host')}{vlan}: {demand['dst']}{through}"
 
 
 def say(wanted, demands, through):

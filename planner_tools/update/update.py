@@ -7,7 +7,7 @@ kept in a new folder in DIR, `update-1` and so on: `replies`, `old.json`, `plan.
 end stand the commands that go on with it, or turn it back to the tables that the switches had. Where no table could be read there is no folder.
 
 What there is to warn of in the three files is said first; --strict ends it there. Before the first change the entries that are changed are shown round by
-round, as `planner show` does, and it is asked whether the plan may be carried out; --yes answers so, and --dry-run ends there. With --quiet nothing is said
+round, as `planner show` does, and what changes for whom, and it is asked whether the plan may be carried out; --yes answers so, and --dry-run ends there. With --quiet nothing is said
 but refusals and the question.
 
 Exit status: 0 done, or nothing was to be done, or it was a dry run; 2 wrong words; otherwise that of the step that stopped it, which is named: 1 refused or not
@@ -23,6 +23,7 @@ import sys
 from planner_tools import network as nets
 from planner_tools import events, program, show
 from planner_tools.files import read_json
+from planner_tools.intent import diff
 from planner_tools.proved import How, answer_for, look, say_why
 from planner_tools.switches import apply, collect, connections, ends, under_way
 from planner_tools.switches.connections import host_and_port, progress, say
@@ -175,9 +176,10 @@ class Update:
                 raise Stopped("the files", f"{self.path(name)}.json can't be written: {fault.strerror}", "make room, and begin again", UNWRITABLE) from fault
 
     def show(self, plan):
-        """Shows what the plan does: in a summary, and entry by entry where somebody is asked or only looks."""
+        """Shows what the plan does: entry by entry where somebody is asked or only looks, in a summary, and what changes for whom."""
         tell = progress if self.options.yes or self.options.dry_run else say
-        for line in [*([] if self.options.yes else self.entries(plan)), *summary(plan, self.switches, None if self.options.ask else self.options.wait)]:
+        whom = diff.summary(self.files["topology"], self.path("old.json"), self.files["new"], self.files["policy"])
+        for line in [*([] if self.options.yes else self.entries(plan)), *summary(plan, self.switches, None if self.options.ask else self.options.wait), *whom]:
             tell(line)
 
     def entries(self, plan):

@@ -3,6 +3,7 @@ import json
 import unittest
 
 from networks import EXAMPLES, Folder, all_walks, asked, changed, covering, firsts, front, planner, some, span, wild
+from planner_tools.intent import diff  # noqa: E402
 
 SEEDS = range(25)
 
@@ -160,6 +161,17 @@ class Words(unittest.TestCase):
         self.assertEqual(text.splitlines()[0], "36 classes of packets: 12 arrive no more, 0 arrive now and didn't, 0 go another way, 24 as before")
         self.assertEqual(text.splitlines()[3:7], ["  from a:2, a:3, any VLAN: 10.0.0.0/23, 10.0.3.0/24 (12 classes)", "    was a b, leaves at b:2", "    now a b, dropped at b",
                                                   "    b: 10.0.0.0/24, priority 5, is dropped, was the host at b:2"])
+
+    def test_a_summary_is_short(self):
+        """For the question of `update`: the counts, some of what changes, and how many more there are."""
+        files = [EXAMPLES / "leaf-spine" / f"{name}.json" for name in ("topology", "old", "new", "policy")]
+        whole, some_lines = diff.summary(*map(str, files), most=1000), diff.summary(*map(str, files))
+        self.assertEqual("\n".join(whole) + "\n", planner("diff", *files)[1])
+        self.assertEqual(some_lines[:-1], whole[:len(some_lines) - 1])
+        self.assertLessEqual(len(some_lines), diff.SUMMARY + 1)
+        paragraphs = sum(line.startswith("  from ") for line in whole) - sum(line.startswith("  from ") for line in some_lines)
+        self.assertEqual(some_lines[-1], f"and {paragraphs} more such paragraphs")
+        self.assertEqual(diff.summary(*map(str, files[:3]), "nowhere"), [])
 
     def test_nothing_differs(self):
         folder = EXAMPLES / "square"

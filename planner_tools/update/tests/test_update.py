@@ -96,6 +96,8 @@ class Updating(UpdateCommand):
         status, said = self.run_it(net, "--dry-run")
         self.assertEqual(status, 0, said)
         self.assertIn("accepted: ordered, 2 rounds, 12 classes", said)
+        self.assertIn("12 classes of packets: 0 arrive no more, 0 arrive now and didn't, 3 go another way, 9 as before\n", said)
+        self.assertIn("    now s1 s4, leaves at s4:3\n    s1: 10.0.0.0/24, priority 100, to s4 (port 4), was s2 (port 2)\n", said)
         self.assertIn("a dry run ends here: nothing was sent", said)
         self.nothing_was_sent(net)
         line = re.search(r"it is carried out by: planner (.*)", said)[1]
