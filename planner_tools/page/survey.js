@@ -102,6 +102,9 @@ class Survey {
     return fateOfPath(update, pathOf(update, update.names.map((_, at) => update.tableBefore(position, at)), it), duties);
   }
 
+  // How often what is known has changed.
+  state() { return `${this.position} ${this.now.length}`; }
+
   // What is known of a class: under the old rules, now, and under the new ones.
   of(number) { return [this.old[number], this.now[number], this.new[number]]; }
 

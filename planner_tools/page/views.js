@@ -37,16 +37,29 @@ class Views {
 
   draw() {
     if (this.shown === "picture") return;
-    if (this.shown === "entries") { this.fill(this.entries()); return; }
-    this.survey.look(this.view.position);
-    if (!this.survey.isDone()) { this.fill([make("p", `Looked at ${this.survey.now.length} of ${this.update.classCount} classes of packets so far ..`, { class: "grey" })]); return; }
-    this.fill(this.shown === "matrix" ? this.matrix() : this.links());
+    if (this.shown === "entries") this.fill(String(this.view.position), () => this.entries());
+    else {
+      this.survey.look(this.view.position);
+      const looked = () => [make("p", `Looked at ${this.survey.now.length} of ${this.update.classCount} classes of packets so far ..`, { class: "grey" })];
+      this.fill(this.survey.state(), !this.survey.isDone() ? looked : this.shown === "matrix" ? () => this.matrix() : () => this.links());
+    }
+    if (this.shown === "matrix") this.mark();
   }
 
-  fill(parts) {
-    const { scrollTop, scrollLeft } = this.box;
-    this.box.replaceChildren(...parts);
+  // Shows what is made, unless it is what stands there: `state` is all that it depends on beside what is shown and the filter.
+  fill(state, made) {
+    const name = `${this.shown} ${state} ${JSON.stringify(this.view.filter.words)}`, { scrollTop, scrollLeft } = this.box;
+    if (name === this.filled) return;
+    this.filled = name;
+    this.box.replaceChildren(...made());
     Object.assign(this.box, { scrollTop, scrollLeft });
+  }
+
+  // Marks the field of the chosen packets.
+  mark() {
+    const before = this.box.querySelector("td.chosen"), now = this.fields && this.fields.get(this.view.class);
+    if (before) before.classList.remove("chosen");
+    if (now !== undefined) { const cell = this.box.querySelector(`td[data-class="${now}"]`); if (cell) cell.classList.add("chosen"); }
   }
 
   // What the columns of a table are called: the old rules, the position, and the new ones.
@@ -66,7 +79,8 @@ class Views {
       rows.get(row).add(number % count);
     }
     if (!rows.size) return [make("p", "No packets are among those that the filter names.")];
-    const columns = this.columns([...rows.keys()].sort((a, b) => a - b), rows), names = [...rows.keys()].sort((a, b) => a - b);
+    const names = [...rows.keys()].sort((a, b) => a - b), columns = this.columns(names, rows);
+    this.fields = new Map();
     const head = `<tr><th class="corner">enters at \\ goes to</th>${columns.map(({ first, last }) => `<th><span>${atomText({ first: update.atoms[first].first, last: update.atoms[last].last })}</span></th>`).join("")}</tr>`;
     const lines = names.map((row) => {
       const it = update.classOf(row * count);
@@ -108,12 +122,13 @@ class Views {
   }
 
   cell(base, { first, last }, own) {
-    const { update, view } = this, at = own.has(first) ? first : null;
+    const { update } = this, at = own.has(first) ? first : null;
     if (at === null) return "<td class=\"none\"></td>";
-    const number = base + at, fates = this.survey.of(number), it = update.classOf(number), titles = this.titles(), isChosen = view.class >= base + first && view.class <= base + last;
+    const number = base + at, fates = this.survey.of(number), it = update.classOf(number), titles = this.titles();
+    for (let atom = first; atom <= last; atom++) this.fields.set(base + atom, number);
     const said = (update.alone ? [fates[0]] : fates).map((fate, which) => ({ fate, text: `${titles[which]}: ${fateText(fate, fates[0])}`, sign: signOf(fate, fates[0]) }));
     const marks = said.map(({ fate, sign }) => `<span class="${fate.isWrong ? "wrong" : fate.ends === "drop" ? "grey" : sign[0] === "✓" ? "" : "new"}">${sign}</span>`).join(" ");
-    const kind = [isChosen ? "chosen" : "", update.duties(it).some ? "" : "free", !update.alone && fates[1].way === null ? "changed" : ""].filter((one) => one).join(" ");
+    const kind = [update.duties(it).some ? "" : "free", !update.alone && fates[1].way === null ? "changed" : ""].filter((one) => one).join(" ");
     return `<td data-class="${number}" class="${kind}" title="${classText(update, it)}&#10;${said.map(({ text }) => text).join("&#10;")}">${marks}</td>`;
   }
 
