@@ -3,8 +3,9 @@
 
     tools/lint.py
 
-Of Python: what the compiler warns of, imports and local names that nothing uses, texts with an f that have nothing to fill in, tabs, white space at the
-end of a line, and lines of more than 240 signs that hold no long text. Of shell scripts: what shellcheck says, where it is on the machine.
+Of Python: what the compiler warns of, tabs, white space at the end of a line, and lines of more than 240 signs that hold no long text; and what pyflakes
+says (Debian's package pyflakes3): names that nothing uses or nothing gives a value, and more. Of shell scripts: what shellcheck says. Where one of the two
+isn't on the machine it is left out, and a line on the error stream says so.
 Exit status: 0 nothing was found, 1 something was.
 """
 import ast
@@ -16,6 +17,7 @@ import warnings
 
 ROOT = os.path.dirname(os.path.dirname(os.path.realpath(__file__)))
 LONGEST = 240
+PYFLAKES = ("pyflakes3", "pyflakes")
 SHELLS = ("#!/bin/sh", "#!/usr/bin/env bash", "#!/bin/bash")
 
 
@@ -53,7 +55,6 @@ def of_python(path):
         except SyntaxError as fault:
             return [(fault.lineno, f"it isn't Python: {fault.msg}")]
     findings = [(one.lineno, str(one.message)) for one in found]
-    findings += unused_imports(tree, text) + empty_texts(tree) + unused_locals(tree)
     prose = {number for node in ast.walk(tree) if isinstance(node, ast.Constant) and isinstance(node.value, str) and len(node.value) > LONGEST - 90
              for number in range(node.lineno, node.end_lineno + 1)}
     for number, line in enumerate(text.splitlines(), 1):
@@ -62,58 +63,50 @@ def of_python(path):
     return findings
 
 
-def names_read(tree):
-    return {node.id for node in ast.walk(tree) if isinstance(node, ast.Name) and not isinstance(node.ctx, ast.Store)}
+def of_names(paths):
+    """What pyflakes says of Python scripts, a line each; nothing of an import that is there on purpose, as `noqa: F401` says."""
+    program = next(filter(None, map(shutil.which, PYFLAKES)), None)
+    if program is None:
+        left_out("pyflakes", "pyflakes3")
+        return []
+    done = subprocess.run([program, *paths], capture_output=True, text=True, check=False)
+    if done.returncode not in (0, 1):
+        return [f"{program} ended with status {done.returncode}: {done.stderr.strip()}"]
+    return [said(line) for line in (done.stdout + done.stderr).splitlines() if line and not is_wanted(line)]
 
 
-def names_offered(tree):
-    """The names that a package lists in its `__all__`."""
-    lists = [node.value for node in tree.body if isinstance(node, ast.Assign) and any(isinstance(one, ast.Name) and one.id == "__all__" for one in node.targets)]
-    return {one.value for it in lists for one in ast.walk(it) if isinstance(one, ast.Constant)}
+def said(line):
+    return os.path.relpath(line, ROOT) if os.path.isabs(line) else line
 
 
-def unused_imports(tree, text):
-    used, lines, found = names_read(tree) | names_offered(tree), text.splitlines(), []
-    for node in ast.walk(tree):
-        if isinstance(node, (ast.Import, ast.ImportFrom)) and getattr(node, "module", None) != "__future__":
-            for one in node.names:
-                name = (one.asname or one.name).split(".")[0]
-                if name not in used and name != "*" and "noqa: F401" not in lines[node.lineno - 1]:
-                    found.append((node.lineno, f"{name} is imported and not used"))
-    return found
+def is_wanted(line):
+    """Whether a line of pyflakes is about an import that is there on purpose."""
+    path, _, rest = line.partition(":")
+    number = rest.partition(":")[0]
+    if not line.endswith("imported but unused") or not number.isdigit():
+        return False
+    with open(path, encoding="utf-8") as file:
+        return "noqa: F401" in file.read().splitlines()[int(number) - 1]
 
 
-def empty_texts(tree):
-    specs = {id(node.format_spec) for node in ast.walk(tree) if isinstance(node, ast.FormattedValue) and node.format_spec}
-    return [(node.lineno, "an f-text has nothing to fill in") for node in ast.walk(tree)
-            if isinstance(node, ast.JoinedStr) and id(node) not in specs and not any(isinstance(part, ast.FormattedValue) for part in node.values)]
-
-
-def unused_locals(tree):
-    """Names that a function gives a value by `=` alone, and that neither it nor a function in it reads."""
-    found = []
-    for function in ast.walk(tree):
-        if not isinstance(function, (ast.FunctionDef, ast.AsyncFunctionDef)):
-            continue
-        used = names_read(function) | {name for node in ast.walk(function) if isinstance(node, (ast.Global, ast.Nonlocal)) for name in node.names}
-        for node in ast.walk(function):
-            if isinstance(node, ast.Assign) and len(node.targets) == 1 and isinstance(node.targets[0], ast.Name) and node.targets[0].id not in used:
-                found.append((node.lineno, f"{node.targets[0].id} is given a value that nothing reads"))
-    return sorted(set(found))
+def left_out(name, package):
+    """Says that a program isn't on the machine."""
+    print(f"lint: {name} isn't on this machine, so what it finds is left out (Debian's package {package})", file=sys.stderr)
 
 
 def of_shell(paths):
-    if not shutil.which("shellcheck") or not paths:
+    if not shutil.which("shellcheck"):
+        left_out("shellcheck", "shellcheck")
         return []
     done = subprocess.run(["shellcheck", "--format=gcc", *paths], capture_output=True, text=True, cwd=ROOT, check=False)
-    return [os.path.relpath(line, ROOT) if os.path.isabs(line) else line for line in done.stdout.splitlines()]
+    return [said(line) for line in done.stdout.splitlines()]
 
 
 def findings():
     """All that is found, a line each."""
     python, shell = scripts()
     lines = [f"{os.path.relpath(path, ROOT)}:{number}: {words}" for path in python for number, words in of_python(path)]
-    return lines + of_shell(shell)
+    return lines + of_names(python) + of_shell(shell)
 
 
 if __name__ == "__main__":

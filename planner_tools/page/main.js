@@ -36,6 +36,10 @@ class View {
     this.fillClasses();
     this.touched = new Touched(this.update, this.order, () => this.drawWhich());
     this.list = new ChangeList(this);
+    this.survey = new Survey(this.update, () => this.surveyed());
+    this.filter = new Filter(this.update, this.survey);
+    this.listed = this.order;
+    this.views = new Views(this);
     element("switch").append(...this.update.names.map((name, at) => make("option", name, { value: at })));
     this.fillRounds();
     element("legend").innerHTML = legendText(this.update);
@@ -84,12 +88,41 @@ class View {
 
   // The classes to choose from: those of which a demand speaks, and then the others.
   fillClasses() {
-    const update = this.update, groups = [["with a demand", []], ["without a demand", []]];
-    for (let number = 0; number < update.classCount; number++) groups[update.duties(update.classOf(number)).some ? 0 : 1][1].push(number);
-    this.order = groups.flatMap(([, numbers]) => numbers);
-    for (const [label, numbers] of groups) {
-      if (numbers.length) element("class").append(make("optgroup", numbers.map((it) => make("option", classText(update, update.classOf(it)), { value: it })), { label }));
-    }
+    const update = this.update;
+    this.groups = [["with a demand", []], ["without a demand", []]];
+    for (let number = 0; number < update.classCount; number++) this.groups[update.duties(update.classOf(number)).some ? 0 : 1][1].push(number);
+    this.order = this.groups.flatMap(([, numbers]) => numbers);
+    this.listClasses(() => true);
+  }
+
+  // Puts those of the classes into the list that are taken.
+  listClasses(takes) {
+    const groups = this.groups.map(([label, numbers]) => [label, numbers.filter(takes)]).filter(([, numbers]) => numbers.length), { update } = this;
+    element("class").replaceChildren(...groups.map(([label, numbers]) => make("optgroup", numbers.map((it) => make("option", classText(update, update.classOf(it)), { value: it })), { label })));
+    this.listed = groups.flatMap(([, numbers]) => numbers);
+  }
+
+  // Lists the classes that the filter names, and goes to the first of them where the chosen one is none.
+  filterBy(text) {
+    if (element("filter").value !== text) element("filter").value = text;
+    this.filter.read(text);
+    if (this.filter.asksForWays()) this.survey.look(this.position);
+    this.refilter();
+    this.draw();
+  }
+
+  refilter() {
+    const { filter, survey, update } = this, isReady = !filter.asksForWays() || survey.isDone();
+    this.listClasses((number) => filter.takes(number));
+    if (this.listed.length && !this.listed.includes(this.class) && isReady) this.class = this.listed[0];
+    element("found").textContent = filter.words.length ? `${this.listed.length} of ${update.classCount}${isReady ? "" : " .."}` : "";
+  }
+
+  // The survey has looked at some more classes.
+  surveyed() {
+    if (this.filter.asksForWays()) this.refilter();
+    if (this.filter.asksForWays() && this.survey.isDone()) this.draw();
+    else this.views.draw();
   }
 
   listen() {
@@ -99,6 +132,7 @@ class View {
     on("on", "click", () => this.go(this.position + 1));
     on("class", "change", () => this.choose({ class: Number(element("class").value) }));
     on("touched", "click", () => this.nextTouched());
+    on("filter", "input", () => this.filterBy(element("filter").value));
     on("switch", "change", () => this.choose({ chosen: Number(element("switch").value), pinned: true }));
     addEventListener("resize", () => this.picture.drawLabels());
     addEventListener("beforeprint", () => this.list.unfold());
@@ -114,7 +148,7 @@ class View {
   }
 
   press(key) {
-    if (key.altKey || key.ctrlKey || key.metaKey || key.target.tagName === "SELECT") return;
+    if (key.altKey || key.ctrlKey || key.metaKey || ["SELECT", "INPUT"].includes(key.target.tagName) && key.target.type !== "range" && key.target.type !== "checkbox") return;
     const acts = { ArrowLeft: () => this.go(this.position - 1), ArrowRight: () => this.go(this.position + 1) };
     if (this.player) Object.assign(acts, { n: () => this.play(this.event + 1), p: () => this.play(this.event - 1) });
     if (acts[key.key]) { key.preventDefault(); acts[key.key](); }
@@ -159,10 +193,12 @@ class View {
   readHash() {
     const words = new URLSearchParams(location.hash.slice(1)), has = (name) => words.has(name) && words.get(name) !== "";
     if (has("event") && this.player) this.toEvent(Number(words.get("event")));
-    if (has("round")) this.position = Math.max(0, Math.min(this.update.last, Number(words.get("round")) || 0));
+    if (has("round")) Object.assign(this, { position: Math.max(0, Math.min(this.update.last, Number(words.get("round")) || 0)), playing: this.playing && has("event") });
     if (has("class") && Number(words.get("class")) < this.update.classCount) this.class = Number(words.get("class"));
     if (this.update.number.has(words.get("switch"))) Object.assign(this, { chosen: this.update.number.get(words.get("switch")), pinned: true });
     if (has("near")) this.near = words.get("near") === "1";
+    if (has("filter")) this.filterBy(words.get("filter"));
+    if (has("view")) this.views.show(words.get("view"));
   }
 
   draw() {
@@ -190,6 +226,8 @@ class View {
     this.drawPicture(places);
     this.lookAgain();
     if (this.player) this.drawPlayer();
+    if (this.filter.asksForWays()) this.survey.look(this.position);
+    this.views.draw();
   }
 
   // Where no switch was chosen, the rules of one of those that change are shown; where the planner refuses the plan, of the one that it names.
@@ -210,8 +248,12 @@ class View {
       drops: new Set(steps.filter(({ one }) => one.what === "drop").map(({ place }) => place.at)), packets: this.playing ? this.player.state.packets.filter((packet) => packet.end === null) : [] });
   }
 
-  // The changes of the round that are still to be made in the run that is played.
-  pendingNow() { return this.player.state.running ? this.player.state.pending : new Set(); }
+  // The changes of the round that is shown that are still to be made in the run that is played: all of a round that hasn't begun.
+  pendingNow() {
+    const { running, settled, pending } = this.player.state;
+    if (this.position <= settled) return new Set();
+    return running && this.position === settled + 1 ? pending : new Set(this.update.changesIn(this.position).map((change) => change.at));
+  }
 
   lookAgain() {
     const around = this.near ? this.around() : null, name = around ? around.join() : "whole";
@@ -245,12 +287,13 @@ class View {
     this.list.scrollTo(top, this.update.names[this.chosen]);
   }
 
-  // Of a run that is played: which of some changes are made.
-  doneText(changes) {
+  // Of a run that is played: whether a change is made, and how many of some.
+  doneText(change) { return !this.playing ? "" : this.pendingNow().has(change.at) ? "pending: " : "done: "; }
+
+  doneCount(changes) {
     if (!this.playing) return "";
-    const pending = changes.filter((change) => this.pendingNow().has(change.at)).length;
-    if (changes.length === 1) return pending ? "pending: " : "done: ";
-    return `; ${changes.length - pending} done`;
+    const pending = this.pendingNow(), left = changes.filter((change) => pending.has(change.at)).length;
+    return left === 0 ? "; done" : left === changes.length ? "; pending" : `; ${changes.length - left} done`;
   }
 
   // How many classes of packets have a step that the round changes, and which of them the chosen one is.
@@ -457,16 +500,22 @@ class View {
     element("player").hidden = false;
     element("play").querySelector("b").textContent = `Run ${name.split("/").pop()}`;
     const events = new Map(player.events.map((event, at) => [event.line, at]));
+    player.to(Infinity);
     this.eventLines = lines.map((text, line) => {
-      const made = make("li", text || " ", { class: text === "" || text.startsWith("#") ? "comment" : line === player.stop ? "cannot" : "" });
+      const made = make("li", events.has(line) ? player.wordsOf(events.get(line)) : text || " ", { class: text === "" || text.startsWith("#") ? "comment" : line === player.stop ? "cannot" : "", title: text });
       if (events.has(line)) made.addEventListener("click", () => this.play(events.get(line) + 1));
       if (line === player.stop) made.append("   this can't happen here: ", this.data.schedule.answers[0]);
       return made;
     });
-    player.to(Infinity);
     if (this.data.schedule.run && !player.agrees()) element("packets").before(make("p", "This page's packets go otherwise than the planner's: the planner is right.", { class: "wrong" }));
-    player.to(0);
-    this.toEvent(0);
+    this.toEvent(this.firstEvent());
+  }
+
+  // Where a run opens: at its beginning; where the planner refuses the plan, at the event by which a packet breaks the policy; where it is no run, behind the
+  // last event that can be.
+  firstEvent() {
+    const { player } = this, wrong = this.data.verdict.accepted ? -1 : player.firstWrong();
+    return wrong >= 0 ? wrong + 1 : player.stop !== null ? player.events.length : 0;
   }
 
   toEvent(count) {

@@ -79,6 +79,7 @@ class Update {
     const firsts = [...bounds].sort((a, b) => a - b);
     this.atoms = firsts.map((first, at) => ({ first, last: at + 1 < firsts.length ? firsts[at + 1] - 1 : 2 ** 32 - 1 }));
     this.classCount = this.hosts.length * this.vlans.length * this.atoms.length;
+    this.dutiesOf = [];
   }
 
   // A class by its number.
@@ -99,8 +100,10 @@ class Update {
       && demand.first <= it.address && it.address <= demand.last);
   }
 
-  // What the policy asks of a class: the chains of waypoints, ascending, each once, and whether its packets must arrive.
-  duties(it) {
+  // What the policy asks of a class: the chains of waypoints, ascending, each once, and whether its packets must arrive. It is found once.
+  duties(it) { return this.dutiesOf[it.number] ||= this.askedOf(it); }
+
+  askedOf(it) {
     const demands = this.demandsOf(it), chains = new Map();
     for (const demand of demands) if (demand.through.length) chains.set(demand.through.join(), demand.through);
     return { some: demands.length > 0, deliver: demands.some((demand) => demand.deliver), chains: [...chains.values()].sort(compareLists) };

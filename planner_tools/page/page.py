@@ -19,7 +19,7 @@ from planner_tools.proved import say_why
 
 HERE = os.path.dirname(os.path.realpath(__file__))
 
-SCRIPTS = ("model.js", "walks.js", "search.js", "words.js", "changes.js", "picture.js", "player.js", "main.js")
+SCRIPTS = ("model.js", "walks.js", "search.js", "words.js", "changes.js", "picture.js", "player.js", "survey.js", "views.js", "main.js")
 # How many files there are: of an update, and of a configuration without and with a policy.
 UPDATE, CONFIGURATION = 5, (2, 3)
 

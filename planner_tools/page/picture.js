@@ -5,12 +5,17 @@ const COLOURS = Object.fromEntries(["old", "new", "ink", "bad", "mark", "paper",
 Object.assign(COLOURS, { paleOld: "var(--pale-old)", paleNew: "var(--pale-new)", paleMark: "var(--pale-mark)" });
 // How high names beside the switches are on the screen, and how high those in the boxes must be to be read, in pixels.
 const LABEL = 11.5, READABLE = 8.5;
+// How wide boxes are, from their middle, and how high names in them.
+const NARROW = 24, WIDE = 62, NAME = 15;
 // The radius of the dot for a switch whose box is too small to be seen, in pixels.
 const DOT = 3.5;
 
 class Picture {
   constructor(svg, update, layout) {
     Object.assign(this, { svg, update, layout, unit: layout.size / 20, places: layout.switches, hostPlaces: layout.hosts });
+    // Where a name is too long for any box that has room, all of them stand beside the boxes.
+    this.isBeside = update.names.some((name) => this.nameSize(name, WIDE) < READABLE);
+    this.least = Math.min(NAME, ...update.names.map((name) => this.nameSize(name, this.halfOf(name))));
     this.bends = this.bendsOf();
     this.lines = new Map();
     this.view = null;
@@ -91,7 +96,11 @@ class Picture {
   }
 
   // Half the width of a switch's box.
-  half(place) { return Math.min(Math.max(24, 4.6 * this.update.names[place.at].length + 7), 62) * this.unit; }
+  half(place) { return this.halfOf(this.update.names[place.at]) * this.unit; }
+  halfOf(name) { return this.isBeside ? NARROW : Math.min(Math.max(NARROW, 4.6 * name.length + 7), WIDE); }
+
+  // How high a name may be in a box.
+  nameSize(name, half) { return Math.min(NAME, 1.75 * half / name.length); }
 
   aside(points, much) {
     const [[x0, y0], [x1, y1]] = [points[0], points[points.length - 1]], length = Math.hypot(x1 - x0, y1 - y0) || 1;
@@ -174,14 +183,14 @@ class Picture {
   // Names beside the switches, of one size on the screen, where those in the boxes are too small to be read. First come those of the switches of which
   // the page speaks; a name gives way where it would cover another one, or a switch.
   drawLabels() {
-    const scale = this.onScreen(), isSmall = 15 * this.unit * scale < READABLE;
+    const scale = this.onScreen(), isSmall = this.isBeside || this.least * this.unit * scale < READABLE, seen = this.seen(scale);
     this.svg.classList.toggle("small", isSmall);
     if (!isSmall) { this.fill("labels", ""); return; }
     const high = LABEL / scale, boxes = this.places.map(([x, y], at) => this.boxOf(x, y, this.half(Object.assign([x, y], { at })), 15 * this.unit)), taken = [], lines = [];
     for (const at of new Set([...this.first, ...this.places.keys()])) {
       const isFirst = this.first.includes(at), wide = 0.64 * high * this.update.names[at].length;
       const sides = this.besides(at, wide, high), isFree = (it) => !taken.some((other) => isOver(it, other)) && !boxes.some((other, one) => one !== at && isOver(it, other));
-      const room = sides.find(isFree) || (at === this.first[0] ? sides[0] : null);
+      const room = sides.find((it) => isFree(it) && isWithin(it, seen)) || (at === this.first[0] ? this.movedInto(sides[0], seen) : null);
       if (!room) continue;
       taken.push(room);
       lines.push(`<text class="label" data-label="${this.update.names[at]}" x="${(room.left + wide / 2).toFixed(1)}" y="${(room.top + 0.8 * high).toFixed(1)}"`
@@ -189,6 +198,17 @@ class Picture {
         + ` font-weight="${isFirst ? "bold" : "normal"}">${this.update.names[at]}</text>`);
     }
     this.fill("labels", this.dots(scale) + lines.join(""));
+  }
+
+  // The part of the picture that is on the screen.
+  seen(scale) {
+    const box = this.svg.getBoundingClientRect(), [left, top, width, height] = this.view || [0, 0, this.layout.width, this.layout.height];
+    return this.boxOf(left + width / 2, top + height / 2, box.width / scale / 2, box.height / scale / 2);
+  }
+
+  movedInto(room, seen) {
+    const right = Math.max(0, seen.left - room.left) - Math.max(0, room.right - seen.right), low = Math.max(0, seen.top - room.top) - Math.max(0, room.low - seen.low);
+    return { left: room.left + right, right: room.right + right, top: room.top + low, low: room.low + low };
   }
 
   // Where the boxes are too small to be seen and to be clicked: a dot for each switch.
@@ -285,7 +305,7 @@ class Picture {
     if (shown.waypoints.has(at)) marks.push(box(4, `class="waypoint" fill="${COLOURS.paper}" stroke="${COLOURS.ink}" stroke-width="${this.width(shown.own.has(at) ? 2.2 : 1)}"`));
     marks.push(box(0, `fill="${this.colourOf(at)}" stroke="${COLOURS.ink}" stroke-width="${this.width(at === shown.chosen ? 3.5 : 1.5)}"`
       + (shown.pending && shown.pending.has(at) ? ` stroke-dasharray="${this.width(5)} ${this.width(3)}"` : "")));
-    const size = Math.min(15, 1.75 * half / unit / name.length);
+    const size = this.nameSize(name, half / unit);
     marks.push(this.text(x, y + (changing ? 1.5 : 5) * unit, name, size, `class="inside" fill="${ink}" font-weight="bold"`));
     if (changing) marks.push(this.text(x, y + 11.5 * unit, this.changeWords(at, shown), 8.5, `class="words inside" fill="${ink}" font-style="italic"`));
     const below = [...shown.drops.has(at) ? ["&#10005; drops"] : [], ...shown.waypoints.has(at) ? ["waypoint"] : []];
@@ -343,6 +363,8 @@ class Picture {
 }
 
 function isOver(one, other) { return one.left < other.right && other.left < one.right && one.top < other.low && other.top < one.low; }
+
+function isWithin(one, other) { return other.left <= one.left && one.right <= other.right && other.top <= one.top && one.low <= other.low; }
 
 // What the lines of the picture mean.
 function legendText(update) {

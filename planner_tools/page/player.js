@@ -11,6 +11,7 @@ class Player {
     this.ends = schedule.run ? schedule.answers.slice(0, -1).map((line) => / (left .*|dropped .*|lost|under way)$/.exec(line)[1]) : null;
     this.count = 0;
     this.undo = [];
+    this.words = [];
     this.state = { settled: 0, running: false, pending: new Set(), tables: update.old.slice(), packets: [], packet: null };
   }
 
@@ -24,6 +25,7 @@ class Player {
   on() {
     const [what, ...words] = this.events[this.count].words, state = this.state, packet = state.packet;
     const back = this[`do_${what}`](state, words);
+    this.words[this.count] ??= this.saying(what, words);
     this.undo.push(() => { back(); state.packet = packet; });
     this.count++;
   }
@@ -84,6 +86,49 @@ class Player {
     packet.end = "lost";
     state.packet = packet.number;
     return () => { packet.end = null; };
+  }
+
+  // An event in words, as soon as it was played once.
+  wordsOf(event) { return this.words[event] || this.events[event].words.join(" "); }
+
+  // The event that has just happened, in words.
+  saying(what, [first]) {
+    const { state, update } = this, packet = state.packets[Number(first)], name = `packet ${first}`;
+    if (what === "start") return `round ${state.settled + 1} begins: ${roundText(update, update.rounds[state.settled])}`;
+    if (what === "settle") return `round ${state.settled} is settled`;
+    if (what === "change") {
+      const change = update.rounds[state.settled][Number(first)];
+      return `${update.names[change.rule.at]} is changed: ${changeText(update, change)}`;
+    }
+    if (what === "enter") {
+      const entered = state.packets[state.packets.length - 1], [place, vlan, address] = entered.entry.split(" ");
+      return `packet ${entered.number} enters at ${place} ${vlan === "untagged" ? vlan : `with VLAN ${vlan}`} for ${address}`;
+    }
+    if (what === "lose") return `${name} is lost`;
+    const stops = packet.stops.map((stop) => stop.slice(0, stop.lastIndexOf(":"))), [last] = stops.slice(-1);
+    if (packet.end === null) return `${name} goes from ${stops[stops.length - 2]} to ${last}${stops.indexOf(last) < stops.length - 1 ? ", where it has been before" : ""}`;
+    return packet.end.startsWith("left") ? `${name} leaves at ${packet.end.split(" ")[1]}` : `${name} is dropped by ${last}`;
+  }
+
+  // The first event by which a packet breaks the policy; -1 where none does. The run stands as it stood.
+  firstWrong() {
+    const count = this.count;
+    let found = -1;
+    for (this.to(0); found < 0 && this.count < this.events.length; this.on()) {
+      if (this.count && this.isWrong(this.state.packets[this.state.packet])) found = this.count - 1;
+    }
+    if (found < 0 && this.count && this.isWrong(this.state.packets[this.state.packet])) found = this.count - 1;
+    this.to(count);
+    return found;
+  }
+
+  // Whether a packet has come to a switch twice, was dropped though it must arrive, or has left without its waypoints.
+  isWrong(packet) {
+    if (!packet || packet.of < 0) return false;
+    const switches = packet.stops.map((stop) => this.update.number.get(stop.slice(0, stop.lastIndexOf(":")))), duties = this.update.duties(this.update.classOf(packet.of));
+    if (new Set(switches).size < switches.length) return true;
+    if (packet.end === null || packet.end === "lost") return false;
+    return packet.end.startsWith("dropped") ? duties.deliver : !duties.chains.every((chain) => meetsChain(switches, chain));
   }
 
   // The line of a packet as the planner's replay writes it, with the end that the packet has now in this page.

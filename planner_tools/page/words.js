@@ -43,7 +43,7 @@ function kindsText(changes) {
   return kinds.size === 1 ? changes[0].what : [...kinds].map(([what, count]) => `${what} ${count}`).join(", ");
 }
 
-function countText(count, one) { return `${count} ${one}${count === 1 ? "" : /(ch|s)$/.test(one) ? "es" : "s"}`; }
+function countText(count, one) { return `${count} ${count === 1 ? one : /(ch|s)$/.test(one) ? `${one}es` : one.replace(/y$/, "ie") + "s"}`; }
 
 // The addresses of an atom: as a prefix where they are one.
 function atomText({ first, last }) {

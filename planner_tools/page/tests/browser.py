@@ -10,7 +10,7 @@ import time
 
 NAMES = ("chromium", "chromium-browser", "google-chrome", "google-chrome-stable")
 # How long an answer may take.
-SECONDS = 60
+SECONDS = 300
 
 
 def program():

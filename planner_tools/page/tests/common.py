@@ -12,7 +12,7 @@ import networks
 
 FRONT_END = os.path.join(networks.ROOT, "planner")
 NO_BROWSER = "no browser on this machine: the tests that open pages in one are left out"
-SECONDS = 60
+SECONDS = 300
 
 
 def planner():
