@@ -17,7 +17,7 @@ from network import DATAPATHS  # noqa: E402
 
 CONTROLLERS, EXAMPLES = ROOT / "examples" / "controllers", ROOT / "examples"
 LONGEST = 240
-SITUATION = {**os.environ, "PYTHONPATH": str(ROOT / "library"), "PYTHONDONTWRITEBYTECODE": "1"}
+SITUATION = {**os.environ, "PYTHONPATH": os.pathsep.join([str(ROOT / "library"), *os.environ.get("PYTHONPATH", "").split(os.pathsep)]), "PYTHONDONTWRITEBYTECODE": "1"}
 
 
 def has_os_ken():
