@@ -101,6 +101,9 @@ def sums(folder):
 def fill(folder, built, day):
     """Puts the whole package into a folder."""
     files.put(os.path.join(folder, "usr"), ROOT, built, day, zsh_folder="share/zsh/vendor-completions")
+    packages = os.path.join(folder, "usr", "lib", "python3", "dist-packages")
+    os.makedirs(packages)
+    os.symlink("../../planner/library/planner", os.path.join(packages, NAME))
     documents = os.path.join(folder, "usr", files.DOCUMENTS)
     write(os.path.join(documents, "changelog.gz"), gzip.compress(changes(day).encode(), 9, mtime=0))
     write(os.path.join(documents, "copyright"), copyright_text().encode())

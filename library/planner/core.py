@@ -4,7 +4,6 @@ from __future__ import annotations
 import dataclasses
 import json
 import re
-import struct
 from typing import Any, Iterator, Mapping
 
 HELLO = bytes.fromhex("0100000800000000")
@@ -85,6 +84,20 @@ def is_header(data: bytes) -> bool:
     return data[0] != 0 and (data[0] == 1 or data[1] == TYPE_HELLO) and int.from_bytes(data[2:4], "big") >= 8
 
 
+def cut(data: bytes) -> tuple[list[bytes], bytes]:
+    """The whole messages at the beginning of some bytes, and the rest. From a header on that is none, all bytes are one message."""
+    messages, at = [], 0
+    while len(data) - at >= 8:
+        if not is_header(data[at:at + 8]):
+            return messages + [data[at:]], b""
+        end = at + int.from_bytes(data[at + 2:at + 4], "big")
+        if end > len(data):
+            break
+        messages.append(data[at:end])
+        at = end
+    return messages, data[at:]
+
+
 def is_last(line: str) -> bool:
     """Whether a line is the last one of a block."""
     return line.startswith(("ok ", "no ")) or line == "bad line"
@@ -117,18 +130,12 @@ class Core:
 
     def pieces(self, switch: str, data: bytes) -> Iterator[tuple[bytes, bool]]:
         """The messages in some bytes of a switch, and whether each is to be fed."""
-        data, at = self.rest.pop(switch, b"") + data, 0
-        while len(data) - at >= 8:
-            if not is_header(data[at:at + 8]):
-                yield data[at:at + PIECE], True          # the session fails by it
-                return
-            end = at + struct.unpack("!H", data[at + 2:at + 4])[0]
-            if end > len(data):
-                break
-            yield data[at:end], self.is_fed(switch, data[at:end])
-            at = end
-        if data[at:]:
-            self.rest[switch] = data[at:]
+        messages, rest = cut(self.rest.pop(switch, b"") + data)
+        if rest:
+            self.rest[switch] = rest
+        for one in messages:
+            is_good = is_header(one[:8])
+            yield one if is_good else one[:PIECE], not is_good or self.is_fed(switch, one)       # by a bad header the session fails
 
     def is_fed(self, switch: str, message: bytes) -> bool:
         if switch not in self.open:

@@ -24,6 +24,8 @@ def tree(root, built):
     for path in under(root, "planner_tools"):
         if path.endswith(SOURCES) and "tests" not in path.split("/"):
             found[f"{LIBRARY}/{path}"] = os.path.join(root, path)
+    for path in under(root, "library/planner"):
+        found[f"{LIBRARY}/{path}"] = os.path.join(root, path)
     for path in (*FROM_ROOT, *under(root, "examples"), *(path for path in under(root, "docs") if path.endswith(FROM_DOCS))):
         if os.path.exists(os.path.join(root, path)):
             found[f"{DOCUMENTS}/{path}"] = os.path.join(root, path)
