@@ -110,7 +110,7 @@ def look_at(load, words):
 
 
 def parser_of():
-    parser = argparse.ArgumentParser(prog="planner links", description="Says how many classes of packets use each link and each switch, and for which prefixes.")
+    parser = argparse.ArgumentParser(prog="planner links", description=__doc__.partition("\n\n")[2], formatter_class=argparse.RawDescriptionHelpFormatter)
     parser.add_argument("files", metavar="FILE", nargs="+", help="TOPO CONFIG, or a folder, which stands for its topology.json and old.json")
     parser.add_argument("--empty", metavar="LINK", action="append", default=[], help="asks whether nothing uses this link or switch; exit status 1 where something does")
     parser.add_argument("--json", action="store_true", help="writes JSON, for machines")

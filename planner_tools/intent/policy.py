@@ -244,7 +244,7 @@ def most(text):
 
 
 def parser_of():
-    parser = argparse.ArgumentParser(prog="planner policy", description="Writes a policy of what both configurations do: what arrives under both must arrive.")
+    parser = argparse.ArgumentParser(prog="planner policy", description=__doc__.partition("\n\n")[2], formatter_class=argparse.RawDescriptionHelpFormatter)
     parser.add_argument("files", metavar="FILE", nargs="+", help="TOPO OLD NEW, or a folder in place of those that are left out")
     parser.add_argument("--through", metavar="SWITCH", action="append", default=[], help="a switch that a class has to meet where both of its paths meet it; several may be given, "
                         "also with commas")
