@@ -23,6 +23,8 @@ MODULES = {
 }
 # Those of them whose answer `-o FILE` takes.
 WITH_OUTPUT = ("collect", "diff", "from-graphml", "from-mininet", "from-ofctl", "links", "page", "policy", "route", "show")
+# Those of them that get `--quiet` and `--strict` too, as they warn.
+WARNING = ("policy", "route")
 # Those of them in which a folder stands for names.
 UNFOLDING = ("apply", "collect", "page")
 WRONG_WORDS, UNWRITTEN, INTERRUPTED = 2, 7, 130
@@ -119,7 +121,8 @@ def unfolded(words):
 def run_module(words, options):
     """Runs a command of the front end itself; with `-o` its output goes into a file, which is there only where the status is 0."""
     import importlib
-    command, words = importlib.import_module(MODULES[words[0]]).main, unfolded(words)
+    heeded = [flag for flag, is_given in (("--quiet", options.is_quiet), ("--strict", options.is_strict)) if is_given and words[0] in WARNING]
+    command, words = importlib.import_module(MODULES[words[0]]).main, unfolded(words) + heeded
     if options.output is None:
         try:
             return command(words[1:])

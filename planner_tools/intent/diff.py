@@ -268,7 +268,7 @@ def parser_of():
     return parser
 
 
-def work(words):
+def work(words, _voice):
     given = parser_of().parse_intermixed_args(words)
     files = files_of("diff", given.files)
     found, policy = difference(files), files.get("POLICY")

@@ -117,7 +117,7 @@ def parser_of():
     return parser
 
 
-def work(words):
+def work(words, _voice):
     given = parser_of().parse_intermixed_args(words)
     files = files_of("links", given.files)
     load = Load(Paths(asked("paths", (0, 1), TOPO=files["TOPO"], CONFIG=files["CONFIG"])), network_of(files["TOPO"]))
