@@ -22,7 +22,7 @@ MODULES = {
     "show": "planner_tools.show",
 }
 # Those of them that are quiet or strict themselves.
-WITH_FLAGS = ("apply", "update")
+WITH_FLAGS = ("apply", "policy", "route", "update")
 # Those of them whose answer `-o FILE` takes.
 WITH_OUTPUT = ("collect", "diff", "from-graphml", "from-mininet", "from-ofctl", "links", "page", "policy", "route", "show")
 # Those of them in which a folder stands for names.

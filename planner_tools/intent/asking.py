@@ -75,19 +75,36 @@ def text_of(file):
         raise Stop(f"{file.shown}: it is no text in UTF-8", BAD_FILE) from fault
 
 
+class Told(Voice):
+    """Says notes and warnings, and knows whether it has warned. Where warnings end it, they are said also by a quiet one."""
+
+    def __init__(self, options):
+        super().__init__(is_quiet=options.is_quiet)
+        self.is_strict, self.has_warned = options.is_strict, False
+
+    def warn(self, what, more=()):
+        self.has_warned = True
+        (Voice() if self.is_strict else super()).warn(what, more)
+
+
 def done(work, words):
-    """Does the work of a command, which returns the exit status and the text to write, and returns the status."""
+    """Does the work of a command, which takes its words and a voice and returns the exit status and the text to write, and returns the status."""
+    from planner_tools.main import take_options
+    options, words = take_options(words)
+    voice = Told(options)
     try:
-        status, text = work(words)
+        status, text = work(words, voice)
     except Stop as stop:
-        if stop.args[0] is None:
-            return stop.status       # what the program refused is said already
-        Voice().refuse(str(stop), stop.more)
+        if stop.args[0] is not None:     # otherwise what the program refused is said already
+            voice.refuse(str(stop), stop.more)
         return stop.status
     except OSError as fault:
         if fault.filename is None:
             raise
-        Voice().refuse(f"{fault.filename}: {fault.strerror}")
+        voice.refuse(f"{fault.filename}: {fault.strerror}")
         return UNREAD
+    if options.is_strict and voice.has_warned:
+        voice.refuse("nothing is written, as there are warnings and --strict is given")
+        return BAD_FILE
     sys.stdout.write(text)
     return status

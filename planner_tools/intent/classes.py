@@ -128,6 +128,17 @@ def ranges(atoms, firsts):
     return [tuple(one) for one in found]
 
 
+def joined(some):
+    """Ranges in ascending order, where neighbours are one."""
+    found = []
+    for first, last in sorted(some):
+        if found and found[-1][1] + 1 == first:
+            found[-1] = (found[-1][0], last)
+        else:
+            found.append((first, last))
+    return found
+
+
 def blocks(first, last):
     """The fewest prefixes that make up a range, as first addresses and lengths."""
     found = []

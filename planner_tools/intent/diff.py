@@ -4,7 +4,7 @@
 
 Of each class of packets its path under both configurations is compared, as `paths` of the program writes it. Those that go alike are counted; the others are
 told by host ports, VLANs and prefixes, put together where they say the same, with both paths, and with the rules that make the difference: those at each switch
-where both paths come by the same port and go on differently.
+where both paths come by the same port and go on differently. In words paths with several beginnings are told from where they part, behind `..`.
 
 Exit status: 0 said, whatever changes; 2 wrong words; 3, 6 and 9 as `paths`.
 """
@@ -15,7 +15,7 @@ from planner_tools import network as nets
 from planner_tools import program
 from planner_tools.files import counted
 from planner_tools.intent.asking import asked, done, files_of, network_of, rules_of
-from planner_tools.intent.classes import Beside, Paths, grouped, prefixes, range_words, ranges, shortened, vlan_value, vlan_words
+from planner_tools.intent.classes import Beside, Paths, grouped, joined, prefixes, range_words, ranges, shortened, vlan_value, vlan_words
 from planner_tools.intent.lookup import Tables
 from planner_tools.proved import Given, Stop
 
@@ -138,35 +138,79 @@ class Difference:
             lines.append(f"{policy}: {counted(before, 'class breaks', 'classes break')} it under the old rules, {after} under the new ones")
         return lines
 
-    def change_lines(self, one, network, has_policy):
-        """A change: for whom, both ways, and the rules."""
-        who = ", ".join(filter(None, (f"from {shortened(one.hosts, TOLD)}", vlan_words(one.vlans, self.both.vlans))))
-        lines = [f"  {who}: {shortened(range_words(one.ranges), TOLD)} ({counted(one.count, 'class', 'classes')})",
-                 f"    was {way_words(one.old)}{break_words(one.breaks[0], has_policy)}", f"    now {way_words(one.new)}{break_words(one.breaks[1], has_policy)}"]
-        lines += [f"    {rule_words(*rules, network)}" for rules in one.rules[:TOLD]]
-        return lines + ([f"    and {len(one.rules) - TOLD} more rules"] if len(one.rules) > TOLD else [])
+    def paragraphs(self):
+        """The changes put together whose paths are the same from where they part on."""
+        found = {}
+        for one in self.changes:
+            at = parting(one.old, one.new)
+            key = (one.kind, one.breaks, *(tail_of(way, at) for way in (one.old, one.new)))
+            found.setdefault(key, Paragraph(one, at)).take(one, at)
+        return list(found.values())
 
     def lines(self, network, policy, most=None):
         """The counts, and what changes for whom. With `most` so many lines of changes at the most, and how many are left."""
-        lines, kind = self.head(policy), None
-        for number, one in enumerate(self.changes):
-            mine = self.change_lines(one, network, policy is not None)
+        lines, kind, paragraphs = self.head(policy), None, self.paragraphs()
+        for number, one in enumerate(paragraphs):
+            mine = one.lines(network, self.both.vlans, policy is not None)
             mine = mine if one.kind == kind else ["", HEADS[one.kind], *mine]
             if most is not None and number and len(lines) + len(mine) > most:
-                return [*lines, f"and {len(self.changes) - number} more such paragraphs"]
+                return [*lines, f"and {len(paragraphs) - number} more such paragraphs"]
             lines += mine
             kind = one.kind
         return lines
+
+
+def parting(old, new):
+    """The number of the stop behind which two paths part: the last that both have from the first on."""
+    pairs = zip(old.places(), new.places())
+    return next((at for at, (one, other) in enumerate(pairs) if one != other), min(len(old.places()), len(new.places()))) - 1
+
+
+def tail_of(way, at):
+    """What a path is from a switch on: its name, the stops behind it, and the end."""
+    places = way.places()
+    return (places[at].rpartition(":")[0], *places[at + 1:], way.end, way.at)
+
+
+class Paragraph:
+    """What changes alike from where the paths part: for which packets, both ways from there on, how they break the policy, and the rules."""
+
+    def __init__(self, one, at):
+        self.kind, self.breaks, self.old, self.new, self.at = one.kind, one.breaks, one.old, one.new, at
+        self.fronts, self.by_entry, self.rules, self.counts = set(), {}, {}, {}
+
+    def take(self, one, at):
+        self.fronts.add(tuple(one.old.switches()[:at]))
+        for host in one.hosts:
+            for vlan in one.vlans:
+                self.by_entry.setdefault((host, vlan), []).extend(one.ranges)
+                self.counts[host, vlan] = self.counts.get((host, vlan), 0) + one.count // (len(one.hosts) * len(one.vlans))
+        for rules in one.rules:
+            self.rules.setdefault((rules[0], *map(id, rules[1:])), rules)
+
+    def lines(self, network, vlans, has_policy):
+        """Lines for the packets, both ways, and the rules."""
+        lines = []
+        for hosts, mine, found in grouped({entry: tuple(joined(some)) for entry, some in self.by_entry.items()}):
+            who = ", ".join(filter(None, (f"from {shortened(hosts, TOLD)}", vlan_words(mine, vlans))))
+            count = sum(self.counts[host, vlan] for host in hosts for vlan in mine)
+            lines.append(f"  {who}: {shortened(range_words(found), TOLD)} ({counted(count, 'class', 'classes')})")
+        front, at = ("", 0) if len(self.fronts) == 1 else (".. ", self.at)
+        for word, way, mark in (("was", self.old, self.breaks[0]), ("now", self.new, self.breaks[1])):
+            lines.append(f"    {word} {front}{way_words(way, at)}{break_words(mark, has_policy)}")
+        rules = list(self.rules.values())
+        lines += [f"    {rule_words(*one, network)}" for one in rules[:TOLD]]
+        return lines + ([f"    and {counted(len(rules) - TOLD, 'more rule', 'more rules')}"] if len(rules) > TOLD else [])
 
 
 def way_values(way):
     return {"stops": way.places(), "end": way.end, "at": way.at}
 
 
-def way_words(way):
-    """A path in words: the switches, and how it ends."""
+def way_words(way, at):
+    """A path in words, from one of its stops on: the switches, and how it ends."""
     end = {"left": "leaves at {at}", "dropped": "dropped at {at}", "again": "comes to {at} again"}[way.end]
-    return f"{' '.join(way.switches())}, {end.format(at=way.at)}"
+    return f"{' '.join(way.switches()[at:])}, {end.format(at=way.at)}"
 
 
 def broken(mark):
@@ -218,13 +262,13 @@ def summary(topology, old, new, policy, most=SUMMARY):
 
 
 def parser_of():
-    parser = argparse.ArgumentParser(prog="planner diff", description="Says which classes of packets go another way under NEW, arrive no more, or arrive now and didn't; and which rules do that.")
+    parser = argparse.ArgumentParser(prog="planner diff", description=__doc__.partition("\n\n")[2], formatter_class=argparse.RawDescriptionHelpFormatter)
     parser.add_argument("files", metavar="FILE", nargs="+", help="TOPO OLD NEW [POLICY], or a folder in place of those that are left out")
     parser.add_argument("--json", action="store_true", help="writes JSON, for machines")
     return parser
 
 
-def work(words):
+def work(words, _voice):
     given = parser_of().parse_intermixed_args(words)
     files = files_of("diff", given.files)
     found, policy = difference(files), files.get("POLICY")

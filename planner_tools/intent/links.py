@@ -110,14 +110,14 @@ def look_at(load, words):
 
 
 def parser_of():
-    parser = argparse.ArgumentParser(prog="planner links", description="Says how many classes of packets use each link and each switch, and for which prefixes.")
+    parser = argparse.ArgumentParser(prog="planner links", description=__doc__.partition("\n\n")[2], formatter_class=argparse.RawDescriptionHelpFormatter)
     parser.add_argument("files", metavar="FILE", nargs="+", help="TOPO CONFIG, or a folder, which stands for its topology.json and old.json")
     parser.add_argument("--empty", metavar="LINK", action="append", default=[], help="asks whether nothing uses this link or switch; exit status 1 where something does")
     parser.add_argument("--json", action="store_true", help="writes JSON, for machines")
     return parser
 
 
-def work(words):
+def work(words, _voice):
     given = parser_of().parse_intermixed_args(words)
     files = files_of("links", given.files)
     load = Load(Paths(asked("paths", (0, 1), TOPO=files["TOPO"], CONFIG=files["CONFIG"])), network_of(files["TOPO"]))

@@ -22,7 +22,6 @@ from planner_tools.files import counted, did_you_mean
 from planner_tools.intent.asking import asked, done, files_of, network_of
 from planner_tools.intent.classes import Beside, Paths, blocks, grouped, prefix_text, range_words, ranges, vlan_value, vlan_words
 from planner_tools.proved import Given, Stop
-from planner_tools.voice import Voice
 
 WRONG_WORDS, REFUSED = 2, 1
 MOST_DEMANDS, LONGEST_CHAIN = 512, 16
@@ -244,7 +243,7 @@ def most(text):
 
 
 def parser_of():
-    parser = argparse.ArgumentParser(prog="planner policy", description="Writes a policy of what both configurations do: what arrives under both must arrive.")
+    parser = argparse.ArgumentParser(prog="planner policy", description=__doc__.partition("\n\n")[2], formatter_class=argparse.RawDescriptionHelpFormatter)
     parser.add_argument("files", metavar="FILE", nargs="+", help="TOPO OLD NEW, or a folder in place of those that are left out")
     parser.add_argument("--through", metavar="SWITCH", action="append", default=[], help="a switch that a class has to meet where both of its paths meet it; several may be given, "
                         "also with commas")
@@ -254,7 +253,7 @@ def parser_of():
     return parser
 
 
-def work(words):
+def work(words, voice):
     given = parser_of().parse_intermixed_args(words)
     files = files_of("policy", given.files)
     both = Beside(*(good_paths(files["TOPO"], files[word]) for word in ("OLD", "NEW")))
@@ -263,9 +262,9 @@ def work(words):
     demands, left = kept_and_left(demands_of(wanted), given.most, both)
     text = policy_text(demands)
     judged(files, text)
-    say(wanted, demands, through)
+    say(wanted, demands, through, voice)
     if left:
-        Voice().warn(f"{counted(len(left), 'demand')} more would be needed, and {'is' if len(left) == 1 else 'are'} left out:", ["  " + demand_words(one) for one in left])
+        voice.warn(f"{counted(len(left), 'demand')} more would be needed, and {'is' if len(left) == 1 else 'are'} left out:", ["  " + demand_words(one) for one in left])
     return 0, text
 
 
@@ -276,14 +275,14 @@ def demand_words(demand):
     return f"from {demand.get('from', 'any host')}{vlan}: {demand['dst']}{through}"
 
 
-def say(wanted, demands, through):
+def say(wanted, demands, through, voice):
     """What the policy asks for, and what stays free."""
     asked_for = sum(map(len, wanted.changed.values()))
-    Voice().note(f"{counted(len(demands), 'demand')}: {asked_for} of {counted(wanted.both.count(), 'class', 'classes')} of packets must arrive; the others stay free",
+    voice.note(f"{counted(len(demands), 'demand')}: {asked_for} of {counted(wanted.both.count(), 'class', 'classes')} of packets must arrive; the others stay free",
                  free_lines(wanted))
     unmet = sorted(through - {name for chain in wanted.chains for name in chain})
     if unmet:
-        Voice().warn(f"no class that arrives under both meets {', '.join(unmet)} under both: nothing is demanded of {'it' if len(unmet) == 1 else 'them'}")
+        voice.warn(f"no class that arrives under both meets {', '.join(unmet)} under both: nothing is demanded of {'it' if len(unmet) == 1 else 'them'}")
 
 
 def main(words):

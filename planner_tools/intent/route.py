@@ -30,7 +30,6 @@ from planner_tools.intent.classes import Paths, shortened
 from planner_tools.intent.links import Load, use_words
 from planner_tools.intent.places import Places, link_words, links_of, switch_of
 from planner_tools.proved import Given, Stop
-from planner_tools.voice import Voice
 
 # The priority of rules where CONFIG says none, and the least and the greatest that a configuration may have.
 PRIORITY, LEAST, GREATEST = 100, 1, 16383
@@ -79,7 +78,7 @@ def right_prefix(text):
     return f": its address has bits behind the first {length}; did you mean `{nets.address(first >> 32 - length << 32 - length)}/{length}`?"
 
 
-def weights_of(file, network):
+def weights_of(file, network, voice):
     """The weight of each link, in thousandths. A link that the file doesn't name has the greatest weight of the file."""
     links, found = {end: link for link in links_of(network) for end in link}, {}
     for where, words in lines_of(file):
@@ -88,7 +87,7 @@ def weights_of(file, network):
         found[links[words[0]]] = weight_of(words[2], where)
     lacking = [link for link in links_of(network) if link not in found]
     if lacking and found:
-        Voice().note(f"{file.shown} has no weight for {counted(len(lacking), 'link')}, which count as its heaviest one: {shortened(list(map(link_words, lacking)), TOLD)}")
+        voice.note(f"{file.shown} has no weight for {counted(len(lacking), 'link')}, which count as its heaviest one: {shortened(list(map(link_words, lacking)), TOLD)}")
     return {link: found.get(link, max(found.values(), default=UNIT)) for link in links_of(network)}
 
 
@@ -289,20 +288,20 @@ def accepted(topology, text, shown):
         return Paths(asked("paths", TOPO=topology, CONFIG=config))
 
 
-def say(draft, paths, network, drained, has_before):
+def say(draft, paths, network, drained, voice):
     """What the draft is, what it can't do, and what it leaves to do."""
     new, other, gone = draft.counts()
-    Voice().note(f"{counted(len(draft.rules), 'rule')}" + (f": {new} new, {other} sent elsewhere, {gone} taken away" if has_before else ""))
+    voice.note(f"{counted(len(draft.rules), 'rule')}" + (f": {new} new, {other} sent elsewhere, {gone} taken away" if draft.before else ""))
     by_prefixes = {}
     for name in sorted(draft.unreached, key=network.numbers.get):
         by_prefixes.setdefault(tuple(draft.unreached[name]), []).append(name)
     for dsts, names in by_prefixes.items():
-        Voice().warn(f"there is no way from {shortened(names, TOLD)} to {shortened(list(dsts), TOLD)}: packets from hosts there are dropped")
+        voice.warn(f"there is no way from {shortened(names, TOLD)} to {shortened(list(dsts), TOLD)}: packets from hosts there are dropped")
     links, switches = drained
     load = Load(paths, network)
     for words, count, found in [*((f"{one} to {end}", count, found) for link in links for one, end, count, found in load.over(link)), *((name, *load.of_switch(name)) for name in switches)]:
         if count:
-            Voice().warn(f"{words} is still used, by rules that stay as they are: {use_words(count, found)}")
+            voice.warn(f"{words} is still used, by rules that stay as they are: {use_words(count, found)}")
 
 
 def drained_of(words, network):
@@ -324,7 +323,7 @@ def parser_of():
     return parser
 
 
-def work(words):
+def work(words, voice):
     given = parser_of().parse_intermixed_args(words)
     files, folder = files_of("route", given.files), given.files[0]
     before = beside(folder, given.before) if given.before is not None else None
@@ -334,11 +333,11 @@ def work(words):
         asked("config", (0, 1), TOPO=files["TOPO"], CONFIG=before)
     network = network_of(files["TOPO"])
     exits = prefixes_of(files["PREFIXES"], network)
-    weights = weights_of(beside(folder, given.weights), network) if given.weights is not None else dict.fromkeys(links_of(network), UNIT)
+    weights = weights_of(beside(folder, given.weights), network, voice) if given.weights is not None else dict.fromkeys(links_of(network), UNIT)
     drained = drained_of(given.drain, network)
     draft = Draft(network, Graph(network, weights, set(drained[0]), set(drained[1])), exits, rules_of(before) if before is not None else [])
     text = config_text(draft.rules)
-    say(draft, accepted(files["TOPO"], text, "the draft"), network, drained, before is not None)
+    say(draft, accepted(files["TOPO"], text, "the draft"), network, drained, voice)
     return 0, text
 
 

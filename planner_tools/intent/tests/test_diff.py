@@ -1,5 +1,6 @@
 """Tests of `planner diff`: what it says of each class beside a walk of its own, and its words. PLANNER names the program."""
 import json
+import re
 import unittest
 
 from networks import EXAMPLES, Folder, all_walks, asked, changed, covering, firsts, front, planner, some, span, wild
@@ -139,9 +140,7 @@ class Words(unittest.TestCase):
             f"{EXAMPLES}/square/policy.json: 0 classes break it under the old rules, 0 under the new ones", "",
             "another way:",
             "  from s1:1: 10.0.0.0/24 (1 class)", "    was s1 s2 s3 s4, leaves at s4:3", "    now s1 s4, leaves at s4:3", "    s1: 10.0.0.0/24, priority 100, to s4 (port 4), was s2 (port 2)",
-            "  from s2:3: 10.0.0.0/24 (1 class)", "    was s2 s3 s4, leaves at s4:3", "    now s2 s3 s1 s4, leaves at s4:3",
-            "    s3: 10.0.0.0/24, priority 100, to s1 (port 3), was s4 (port 2)",
-            "  from s3:4: 10.0.0.0/24 (1 class)", "    was s3 s4, leaves at s4:3", "    now s3 s1 s4, leaves at s4:3", "    s3: 10.0.0.0/24, priority 100, to s1 (port 3), was s4 (port 2)"])
+            "  from s2:3, s3:4: 10.0.0.0/24 (2 classes)", "    was .. s3 s4, leaves at s4:3", "    now .. s3 s1 s4, leaves at s4:3", "    s3: 10.0.0.0/24, priority 100, to s1 (port 3), was s4 (port 2)"])
 
     def test_what_breaks_the_policy_is_said(self):
         folder = Folder(self, **{name: json.loads((EXAMPLES / "square" / f"{name}.json").read_text()) for name in ("topology", "old", "policy")},
@@ -172,6 +171,21 @@ class Words(unittest.TestCase):
         paragraphs = sum(line.startswith("  from ") for line in whole) - sum(line.startswith("  from ") for line in some_lines)
         self.assertEqual(some_lines[-1], f"and {paragraphs} more such paragraphs")
         self.assertEqual(diff.summary(*map(str, files[:3]), "nowhere"), [])
+
+    def test_paths_with_several_beginnings_are_told_from_where_they_part(self):
+        """In words as with --json: what the lines say of each class adds up."""
+        for seed in range(200, 206):
+            with self.subTest(seed):
+                chance, net = some(seed, switches=8)
+                old = wild(chance, net)
+                folder = Folder(self, topology=net, old=old, new=changed(chance, net, old))
+                text, found = front("diff", folder.path)[1], json.loads(front("diff", folder.path, "--json")[1])
+                counts = [int(count) for count in re.findall(r"\((\d+) class(?:es)?\)$", text, re.M)]
+                self.assertEqual(sum(counts), found["classes"] - found["counts"]["same"])
+                paths = {tuple(stop.rpartition(":")[0] for stop in one[word]["stops"]) for one in found["changes"] for word in ("old", "new")}
+                for told in re.findall(r"^    (?:was|now) ([^,]*),", text, re.M):
+                    names = told.removeprefix(".. ").split(" ")
+                    self.assertTrue(any(list(path[-len(names):]) == names and (len(path) == len(names) or told.startswith("..")) for path in paths), told)
 
     def test_nothing_differs(self):
         folder = EXAMPLES / "square"

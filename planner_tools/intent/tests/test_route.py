@@ -165,6 +165,15 @@ class Words(unittest.TestCase):
         self.assertEqual((status, [rule for rule in json.loads(text)["rules"] if rule["dst"] == "10.0.0.9/32"]), (0, old["rules"][1:2]))
         self.assertIn("warning: s1:2 to s2:1 is still used, by rules that stay as they are: 1 class, 10.0.0.9/32", said)
 
+    def test_quiet_and_strict(self):
+        """A note is no warning: it isn't said with --quiet, and doesn't end it with --strict. A warning does."""
+        for words, status, is_written, said in ((("--quiet",), 0, True, ""), (("--strict",), 0, True, "planner: note: 4 rules\n"), (("--drain", "s4", "--quiet"), 0, True, ""),
+                                                (("--drain", "s4", "--strict", "--quiet"), 3, False, "planner: warning: there is no way from s1, s2, s3, s4 to 10.0.0.0/24")):
+            with self.subTest(words):
+                found = self.square("10.0.0.0/24 s4:3\n", *words)
+                self.assertEqual((found[0], bool(found[1])), (status, is_written), found)
+                self.assertTrue(found[2].startswith(said) and bool(found[2]) == bool(said), found)
+
     def test_what_is_refused(self):
         for prefixes, more, status, words in (
                 ("10.0.0.1/24 s4:3\n", (), 3, "prefixes, line 1: 10.0.0.1/24 is no prefix: its address has bits behind the first 24; did you mean `10.0.0.0/24`?"),
