@@ -30,6 +30,18 @@ class Events(UpdateTest):
         self.assertEqual(["turned", "undone", "taken back"] * 2 + ["end"], [one["event"] for one in told])
         self.assertEqual([2, 2, 2, 1, 1, 1], [one["round"] for one in told[:-1]])
 
+    def test_nobody_reads_the_events(self):
+        net = Network(self, "square")
+        words = [sys.executable, network.FRONT_END, "apply", *net.files, net.record, "--switches", net.listed, *net.where, "--json", "--wait", "0.05"]
+        run = subprocess.Popen([*map(str, words)], stdout=subprocess.PIPE, stderr=subprocess.PIPE, text=True, env={**network.os.environ, "PLANNER": network.PLANNER})
+        run.stdout.readline()
+        run.stdout.close()
+        said = run.stderr.read()
+        run.stderr.close()
+        self.assertEqual(0, run.wait(120), said)
+        self.assertIn("done: all 2 rounds are settled", said)
+        self.assertTrue(net.has(net.files[2]))
+
     def test_an_update_by_one_command(self):
         net = Network(self, "square")
         for name in ("topology", "new", "policy"):
