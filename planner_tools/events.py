@@ -7,10 +7,14 @@ SINK = None
 
 
 def tell(event, **values):
-    """Writes an event."""
-    if SINK is not None:
-        SINK.write(json.dumps({"event": event, **values}) + "\n")
-        SINK.flush()
+    """Writes an event. Where nobody reads them any more there are no further ones, and the update goes on."""
+    global SINK
+    try:
+        if SINK is not None:
+            SINK.write(json.dumps({"event": event, **values}) + "\n")
+            SINK.flush()
+    except OSError:
+        SINK = None
 
 
 def heard(head, what, more):
@@ -49,7 +53,8 @@ def rounds_of(plan, known={}):
 
 
 class Lines(io.TextIOBase):
-    """An error stream whose lines are written as events. What has no line end when it is flushed, a question, goes to the error stream all the same."""
+    """An error stream whose lines are written as events. What has no line end when it is flushed, a question, goes to the error stream all the same, and so
+    does each line when nobody reads the events any more."""
 
     def __init__(self, stream):
         super().__init__()
@@ -59,6 +64,8 @@ class Lines(io.TextIOBase):
         *lines, self.rest = (self.rest + text).split("\n")
         for one in lines:
             tell("says", words=one)
+            if SINK is None:
+                self.stream.write(f"{one}\n")
         return len(text)
 
     def flush(self):

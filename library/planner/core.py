@@ -86,7 +86,8 @@ def is_header(data: bytes) -> bool:
 
 def cut(data: bytes) -> tuple[list[bytes], bytes]:
     """The whole messages at the beginning of some bytes, and the rest. From a header on that is none, all bytes are one message."""
-    messages, at = [], 0
+    messages: list[bytes] = []
+    at = 0
     while len(data) - at >= 8:
         if not is_header(data[at:at + 8]):
             return messages + [data[at:]], b""

@@ -132,8 +132,9 @@ class Update:
         sent, happened = self.core.take(line, block)
         messages += sent
         events += happened
-        for one in sent if self.send is not None else ():
-            self.send(one.switch, one.data)
+        if self.send is not None:
+            for one in sent:
+                self.send(one.switch, one.data)
 
     def _is_refused(self, status: int | None, text: str) -> Exception:
         return Refused(status or 0, text) if status in (1, 2, 3) else ServeEnded(f"`planner serve` ended with status {status}{': ' + text.strip() if text.strip() else ''}")
@@ -265,6 +266,7 @@ class AsyncSession(Update):
     """A session for asyncio: `session = await AsyncSession.begin(..)`. A call that is cancelled is carried out all the same; its messages go by `send`."""
 
     _process: asyncio.subprocess.Process
+    _lock: asyncio.Lock
 
     @classmethod
     async def begin(cls, topology: File, old: File, new: File, policy: File, plan: File, *, send: Optional[Send] = None,

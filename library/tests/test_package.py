@@ -42,6 +42,12 @@ class Packages(unittest.TestCase):
         files.put(prefix, str(ROOT), shutil.which(program.path()) or program.path(), "2026-12-01")
         self.assertEqual(f"{version.VERSION} accepted s1\n", self.tried(os.path.join(prefix, files.LIBRARY, "library")))
 
+    def test_its_types_agree(self):
+        if importlib.util.find_spec("mypy") is None:
+            self.skipTest("mypy isn't there")
+        done = subprocess.run([sys.executable, "-m", "mypy", "--strict", "--cache-dir", self.folder.name, "planner"], capture_output=True, text=True, check=False, cwd=ROOT / "library")
+        self.assertEqual(0, done.returncode, done.stdout)
+
     def test_pip_installs_it(self):
         if any(importlib.util.find_spec(one) is None for one in ("pip", "setuptools", "wheel")):
             self.skipTest("pip, setuptools or wheel isn't there")

@@ -103,6 +103,7 @@ class Install(Installed):
         run("dpkg-deb", "-x", package, empty)
         self.check_files(empty / "usr")
         self.check_runs(empty / "usr", self.folder)
+        self.assertTrue((empty / "usr/lib/python3/dist-packages/planner/__init__.py").resolve().is_relative_to(empty.resolve() / "usr/lib/planner/library"))
         if shutil.which("lintian"):
             self.assertEqual([], [line for line in run("lintian", "--allow-root", package).stdout.splitlines() if line.startswith("E:")])
 

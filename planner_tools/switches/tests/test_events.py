@@ -1,5 +1,6 @@
 """`planner apply --json`: a line for each event."""
 import json
+import shutil
 import subprocess
 import sys
 import unittest
@@ -28,6 +29,32 @@ class Events(UpdateTest):
         told = [one for one in events if one["event"] != "says"]
         self.assertEqual(["turned", "undone", "taken back"] * 2 + ["end"], [one["event"] for one in told])
         self.assertEqual([2, 2, 2, 1, 1, 1], [one["round"] for one in told[:-1]])
+
+    def test_nobody_reads_the_events(self):
+        net = Network(self, "square")
+        words = [sys.executable, network.FRONT_END, "apply", *net.files, net.record, "--switches", net.listed, *net.where, "--json", "--wait", "0.05"]
+        run = subprocess.Popen([*map(str, words)], stdout=subprocess.PIPE, stderr=subprocess.PIPE, text=True, env={**network.os.environ, "PLANNER": network.PLANNER})
+        run.stdout.readline()
+        run.stdout.close()
+        said = run.stderr.read()
+        run.stderr.close()
+        self.assertEqual(0, run.wait(120), said)
+        self.assertIn("done: all 2 rounds are settled", said)
+        self.assertTrue(net.has(net.files[2]))
+
+    def test_an_update_by_one_command(self):
+        net = Network(self, "square")
+        for name in ("topology", "new", "policy"):
+            shutil.copy(network.EXAMPLES / "square" / f"{name}.json", net.folder)
+        words = [sys.executable, network.FRONT_END, "update", net.folder, "--switches", net.listed, *net.where, "--json", "--wait", "0.05"]
+        for more, status, kinds in (["--dry-run"], 0, ["plan", "end"]), ([], 1, ["plan", "stopped", "end"]), (["--yes"], 0, ["plan", *["started", "changed", "settled"] * 2, "end"]):
+            done = subprocess.run([*map(str, words), *more], capture_output=True, text=True, timeout=120, check=False, stdin=subprocess.DEVNULL,
+                                  env={**network.os.environ, "PLANNER": network.PLANNER})
+            events = [json.loads(line) for line in done.stdout.splitlines()]
+            self.assertEqual(status, done.returncode, done.stdout)
+            self.assertEqual(kinds, [one["event"] for one in events if one["event"] not in ("says", "note", "warning")])
+            self.assertEqual(2, len(events[[one["event"] for one in events].index("plan")]["plan"]["rounds"]))
+        self.assertTrue(net.has(network.EXAMPLES / "square" / "new.json"))
 
     def test_a_session_that_fails(self):
         net = Network(self, "square", only={"s1": {"error_at": 1}})
