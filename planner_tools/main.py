@@ -61,6 +61,8 @@ def ended(number, _):
 
 def main(words):
     """Does what the words say, and returns the exit status."""
+    if sys.stderr is None:           # it was closed: nothing else is to take its place
+        sys.stderr = open("/dev/null", "w", encoding="utf-8")
     status = answer(words)
     try:
         sys.stdout.flush()

@@ -283,7 +283,7 @@ def parser_of_words():
 def is_ended_by_warnings(options, how):
     """Says the warnings about the files. Whether they are the end; nothing was done by then."""
     try:
-        is_ended = look(how, "check", options.topology, options.old, options.new, options.policy, options.plan)
+        _, is_ended = look(how, "check", options.topology, options.old, options.new, options.policy, options.plan)
     except program.NoProgram:
         return False         # that is said where the program is begun
     if is_ended:

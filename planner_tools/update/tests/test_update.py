@@ -140,6 +140,7 @@ class Updating(UpdateCommand):
         self.assertIn(warning, said)
         self.assertIn("thru counts for nothing: no member has this name; did you mean `through`?", said)
         self.assertLess(said.index(warning), said.index("step 1: "))
+        self.assertIn("There is 1 warning: see the first lines.\nCarry it out? [y/N]", said)
         checked = subprocess.run([sys.executable, str(FRONT_END), "check", *(str(net.wanted / f"{name}.json") for name in ("topology", "update-1/old", "new", "policy", "update-1/plan"))],
                                  capture_output=True, text=True, timeout=LONGEST, check=True, env={**os.environ, "PLANNER": PLANNER}).stderr
         warnings = [line for line in checked.splitlines() if line.startswith("planner: warning: ")]
