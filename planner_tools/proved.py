@@ -42,14 +42,14 @@ def say_why(*given, good=(0,)):
 
 
 def look(how, *given):
-    """Says what there is to warn of in the files of a run that is to come. Returns whether that ends it: there are warnings, and `how` is strict."""
+    """Says what there is to warn of in the files of a run that is to come. Returns how many warnings were said, and whether they end it: `how` is strict."""
     run = Run(list(map(str, given)), how)
     run.resolve()
     run.program = program.path()
     is_ended = run.is_ended_by_warnings()
     if not is_ended:
         run.say_notes()
-    return is_ended
+    return run.warned, is_ended
 
 
 class Stop(Exception):
@@ -88,7 +88,7 @@ class Run:
             self.command = words.Command(given[0] if given else "", "", "", "")
         self.program, self.files, self.spooled = None, {}, None
         self.status, self.text, self.fault, self.target = None, "", None, options.output or "the standard output"
-        self.passed, self.notes, self.behind = list(given), [], list(given[1:])
+        self.passed, self.notes, self.warned, self.behind = list(given), [], 0, list(given[1:])
 
     def ask(self, *more):
         """The status and the text of another run of the program."""
@@ -181,6 +181,7 @@ class Run:
         self.notes = [one for one in found if not one.is_warning]
         for one in warnings:
             voice.warn(one.what, one.more)
+        self.warned = len(warnings)
         return bool(warnings)
 
     def explain(self):

@@ -19,7 +19,7 @@ and how far the update came.
     --back              go on with it backwards: turn the round that runs, and undo those that are settled, one by one, up to OLD. Any update can be turned
                         back, also one that is done, after a failed session, and in the middle of a round; --resume then carries it out once more
     --repair            where a switch doesn't have what it must have, give it that, by messages of `planner emit`, in place of stopping
-    --take-over         take away the marks of other updates from the switches: their controllers are to stop
+    --take-over         take away the marks of other updates from the switches, once it is known that this one can go on: their controllers are to stop
     --no-mark           put no mark on the switches: another controller isn't told of this update, and its mark isn't minded
     --strict, --quiet   end where there is something to warn of in the files; say nothing but refusals, and what is asked by --ask
 
@@ -284,7 +284,7 @@ def parser_of_words():
 def is_ended_by_warnings(options, how):
     """Says the warnings about the files. Whether they are the end; nothing was done by then."""
     try:
-        is_ended = look(how, "check", options.topology, options.old, options.new, options.policy, options.plan)
+        _, is_ended = look(how, "check", options.topology, options.old, options.new, options.policy, options.plan)
     except program.NoProgram:
         return False         # that is said where the program is begun
     if is_ended:

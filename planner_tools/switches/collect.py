@@ -11,7 +11,8 @@ What a switch answers is written as it came, but for three things that change no
 - an entry for packets of another type (ARP, IPv6, LLDP) is left out;
 - an entry of priority 0 that does what a miss does (nothing, or to the controller) is left out.
 
-Everything else that a configuration can't say is refused, all entries at once and in words. The extended statistics of Open vSwitch (NXST_FLOW) are
+Everything else that a configuration can't say is refused, all entries at once and in words; where an update is under way its own entries are counted
+alone, and it is said how to go on with it. The extended statistics of Open vSwitch (NXST_FLOW) are
 asked for too: an entry that they show with a match that OpenFlow 1.0 can't say is refused, since the other statistics show it wider than it is.
 
 Exit status: 0 written; 1 refused, or a switch didn't answer; 2 wrong words.

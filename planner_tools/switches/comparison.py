@@ -148,6 +148,9 @@ class Comparison(Conversation):
             record = under_way.record_near(self.options.input, [mark for those in self.foreign.values() for mark in those])
             repair = (f"carry that update on with its own record{f', {record},' if record else ''} by --resume, or turn it back by --back (--recover makes its record anew where it is lost); or "
                       f"go on with --resume --take-over --repair, which gives the switches the tables of {self.options.old}, entry by entry: packets may be dropped meanwhile")
+        where = under_way.standing_of(self.files, self.tables)
+        if where is not None and not where.wrong and where.settled + where.is_running:
+            repair = f"where they are those of this plan, as it was carried out ({where}), and its record is lost, --recover with another record goes on from there; or {repair}"
         config = f"{self.options.input}.before.json"
         try:
             status, text = self.import_tables("before")

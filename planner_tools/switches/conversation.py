@@ -19,8 +19,9 @@ from planner_tools.switches.served import Core, Ended, Serve, run_beside
 FED = (openflow.HELLO, openflow.ERROR, openflow.ECHO_REQUEST, openflow.BARRIER_REPLY)
 # Who hasn't answered yet is said so often while the patience lasts.
 TOLD = 12
-# Of a run of the program it is said at least so often, in seconds; and reading the files may take so many times the patience.
-TELL_PROGRAM, READING = 10.0, 10
+# Of a run of the program it is said at least so often that it hasn't answered, it may take so long whatever the patience, in seconds; and reading the files
+# may take so many times the patience.
+TELL_PROGRAM, LEAST, READING = 10.0, 20.0, 10
 # How long the connection has to have stood on which the messages of a round are sent again, in seconds; with a shorter --wait that long.
 STANDS = 2.0
 REPAIR_XID, REPAIR_BARRIER = OWN + 0x20, OWN + 0x21
@@ -87,16 +88,16 @@ class Conversation:
         command, since, most, told = self.program_since
         now = time.monotonic()
         if now - since > most:
-            raise Stop(f"the patience of {most:g} s is at its end: `planner {command}` hasn't answered",
+            raise Stop(f"the patience of {most:g} s with the program is at its end: `planner {command}` hasn't answered",
                        "see whether the machine is that busy (then --patience may be greater), or what holds up that program; then go on with --resume")
         if now - told > min(TELL_PROGRAM, most / TOLD):
             self.program_since = command, since, most, now
             progress(f"{now - since:.0f} s: no answer yet from `planner {command}`")
 
     def wait_for_program(self, command, times=1):
-        """From now on it is waited for the program, as long as the patience allows, so many times over."""
+        """From now on it is waited for the program, as long as the patience allows, so many times over, and for LEAST."""
         now = time.monotonic()
-        self.program_since = command, now, self.options.patience * times, now
+        self.program_since = command, now, max(LEAST, self.options.patience * times), now
 
     def blocks(self, lines):
         """The blocks of `planner serve` to some lines, each within the patience."""

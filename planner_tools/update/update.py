@@ -60,7 +60,7 @@ class Stopped(Exception):
 class Update:
     def __init__(self, options):
         self.options = options
-        self.how = How(options.quiet, options.strict)
+        self.how, self.warnings = How(options.quiet, options.strict), 0
         self.files = {name: os.path.join(options.folder, f"{name}.json") for name in WANTED}
         self.made = None
 
@@ -105,7 +105,8 @@ class Update:
 
     def warn(self):
         """Says what there is to warn of in the files. The runs behind that say no warning."""
-        if look(self.how, "config", self.files["topology"], self.files["new"], self.files["policy"]):
+        self.warnings, is_ended = look(self.how, "config", self.files["topology"], self.files["new"], self.files["policy"])
+        if is_ended:
             raise Stopped("the files", "there are warnings, and --strict is given", "correct what they name, or leave out --strict", BAD_FILE)
         self.how = self.how.behind_warnings()
 
@@ -198,6 +199,8 @@ class Update:
             return
         if sys.stdin is None or not sys.stdin.isatty():
             raise Stopped("the question", "there is no terminal to ask", "answer it with --yes, or look first with --dry-run")
+        if self.warnings:
+            say(f"There {'is 1 warning' if self.warnings == 1 else f'are {self.warnings} warnings'}: see the first lines.")
         say("Carry it out? [y/N] ", end="")
         self.see_that_it_is_heard()
         if sys.stdin.readline().strip().lower() not in ("y", "yes"):

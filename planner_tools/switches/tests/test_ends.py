@@ -106,7 +106,7 @@ class Ends(UpdateTest):
             with self.subTest(command):
                 net = Network(self, "square")
                 run = net.apply("--patience", "4", program=self.hanging(net, command, word))
-                self.stops(run, f"the patience of 4 s is at its end: `planner {command}` hasn't answered", "go on with --resume")
+                self.stops(run, f"the patience of 20 s with the program is at its end: `planner {command}` hasn't answered", "go on with --resume")
                 self.assertIn(f"s: no answer yet from `planner {command}`", run[1])
                 self.settles(net, net.apply("--resume"))
 
@@ -177,6 +177,15 @@ class Ends(UpdateTest):
                 run = net.apply("--recover", *more)
                 self.assertIn("0 of 8 rounds are settled, and round 1 is half made", run[1])
                 end(net, run)
+
+    def test_tables_of_the_plan_itself_are_told_where_an_update_would_begin(self):
+        net = Network(self, "detour")
+        net.apply_until("round 5 starts")
+        net.record = net.folder / "other"
+        self.stops(net.apply("--take-over"), "So the switches don't have the tables of", " of 8 rounds are settled")
+        self.assertIn("and its record is lost, --recover with another record goes on from there", self.last_of(net))
+        net.record = net.folder / "third"
+        self.settles(net, net.apply("--recover"))
 
     def test_tables_that_are_those_of_no_round_are_told(self):
         net = Network(self, "detour")

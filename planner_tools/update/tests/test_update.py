@@ -142,6 +142,7 @@ class Updating(UpdateCommand):
         self.assertIn(warning, said)
         self.assertIn("thru counts for nothing: no member has this name; did you mean `through`?", said)
         self.assertLess(said.index(warning), said.index("step 1: "))
+        self.assertIn("There is 1 warning: see the first lines.\nCarry it out? [y/N]", said)
         checked = subprocess.run([sys.executable, str(FRONT_END), "check", *(str(net.wanted / f"{name}.json") for name in ("topology", "update-1/old", "new", "policy", "update-1/plan"))],
                                  capture_output=True, text=True, timeout=LONGEST, check=True, env={**os.environ, "PLANNER": PLANNER}).stderr
         warnings = [line for line in checked.splitlines() if line.startswith("planner: warning: ")]
@@ -240,6 +241,34 @@ class Updating(UpdateCommand):
         net.switches["s3"].is_silent = False
         self.carry_out(said.splitlines()[-1].partition("this does it: planner ")[2])
         self.assertTrue(net.has(net.wanted / "new.json"))
+
+
+class Endings(UpdateCommand):
+    """Runs that are ended before anything was sent."""
+
+    def begun(self, net, *more):
+        return subprocess.Popen(self.words(net, *more), stdin=subprocess.DEVNULL, stderr=subprocess.PIPE, text=True, env={**os.environ, "PLANNER": PLANNER}, preexec_fn=heed_interrupts)
+
+    def test_a_signal_ends_it_with_a_word(self):
+        for number, words in ((signal.SIGHUP, "its terminal was closed (SIGHUP)"), (signal.SIGINT, "the operator ended it"), (signal.SIGTERM, "the operator ended it")):
+            with self.subTest(number):
+                net = self.network(only={"s3": {"late": 600.0}})
+                run = self.begun(net, "--yes")
+                for line in run.stderr:
+                    if line.startswith("step 1: "):
+                        break
+                run.send_signal(number)
+                said = run.communicate(timeout=LONGEST)[1]
+                self.assertEqual((run.returncode, said), (1, f"stopped: {words}. Nothing was sent\n"))
+                self.assertFalse((net.wanted / "update-1").exists())
+
+    def test_where_nobody_hears_it_nothing_is_sent(self):
+        net = self.network()
+        run = self.begun(net, "--yes")
+        run.stderr.close()
+        self.assertEqual(run.wait(LONGEST), 1)
+        self.nothing_was_sent(net)
+        self.assertTrue(net.has(EXAMPLES / "square" / "old.json"))
 
 
 class UnderWay(UpdateCommand):
