@@ -82,7 +82,7 @@ def day_of(root):
     if os.environ.get("SOURCE_DATE_EPOCH"):
         return datetime.datetime.fromtimestamp(int(os.environ["SOURCE_DATE_EPOCH"]), datetime.timezone.utc).strftime("%Y-%m-%d")
     with open(os.path.join(root, "CHANGELOG.md"), encoding="utf-8") as file:
-        heads = [line.split() for line in file if line.startswith("## ")]
+        heads = [line.split() for line in file if line.startswith("## ") and line.strip() != "## Unreleased"]
     return heads[0][-1]
 
 
