@@ -206,6 +206,7 @@ class View {
     element("slider").value = this.position;
     element("position").textContent = positionText(update, this.position);
     element("class").value = this.class;
+    element("class").title = it ? classText(update, it) : "";
     const places = it ? walksOf(update, this.position, it) : [];
     const bad = it ? badWalk(update, this.position, it, places, WALK_OF_REASON[this.data.verdict.reason.number]) : null;
     const none = { places: [], end: { what: "drop", from: 0 } };
@@ -214,6 +215,7 @@ class View {
       evidence: it ? update.numbersIn(this.position, this.class) : null, duties: it ? update.duties(it) : { some: false, chains: [], deliver: false } };
     if (!this.pinned) this.chosen = this.firstToShow(bad);
     element("switch").value = this.chosen;
+    element("switch").title = update.names[this.chosen] || "";
     this.drawBad(it, bad);
     if (this.search) this.search.first(this.position);
     this.drawElsewhere();
