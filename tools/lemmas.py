@@ -16,7 +16,7 @@ PASSED_OVER = {"Answers.antt", "Invariants.antt", "Proof.antt", "Rows.antt", "Ru
 HEAD = re.compile(r"(?:(?:pub|abbrev|unfoldable|opaque)\s+)*([^\s(){},:=]+)\s*(?:\{[^}]*\}\s*)*:(?=\s)")
 USE = re.compile(r"(?:pub\s+)?use\b")
 # (begins an item that is no clause of the definition before it)
-OTHER = re.compile(r"(?:pub\s+)?(?:use|mod|module)\b")
+OTHER = re.compile(r"(?:pub\s+)?(?:use|mod|module|record|data)\b")
 # (a name may hold letters of any alphabet, and signs such as -)
 WORD = re.compile(r'[^\s(){}\[\],;.:="]+')
 

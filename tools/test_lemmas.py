@@ -25,6 +25,9 @@ module _ (n : ℕ) where
     outer : n ≡ n
     outer = inner n
 
+pub record Kept (n : ℕ) : Type 0 where
+  pub same : n ≡ n
+
 abbrev second {A : Set} : (n : ℕ) → n ≡ n
 second n = first n
 """
@@ -32,7 +35,7 @@ second n = first n
 
 class Lemmas(unittest.TestCase):
     def test_a_lemma_has_all_its_clauses(self):
-        self.assertEqual([name for name, _ in lemmas.items_in(LAWS)], [None, None, "first", "alone", "inner", None, "second"])
+        self.assertEqual([name for name, _ in lemmas.items_in(LAWS)], [None, None, "first", "alone", "inner", None, None, "second"])
         self.assertTrue(dict(lemmas.items_in(LAWS))["alone"].strip().endswith("alone (suc n) = alone n"))
 
     def test_a_lemma_that_only_itself_names_is_found(self):
