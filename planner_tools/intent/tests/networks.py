@@ -6,6 +6,7 @@ import json
 import os
 import pathlib
 import random
+import signal
 import subprocess
 import sys
 import tempfile
@@ -31,9 +32,12 @@ def planner(*words, given=None):
 
 def front(*words):
     """The same without a process of its own, as many runs go faster so."""
-    wrote, said = io.StringIO(), io.StringIO()
-    with contextlib.redirect_stdout(wrote), contextlib.redirect_stderr(said):
-        status = main.main(list(map(str, words)))
+    wrote, said, before = io.StringIO(), io.StringIO(), signal.getsignal(signal.SIGTERM)
+    try:
+        with contextlib.redirect_stdout(wrote), contextlib.redirect_stderr(said):
+            status = main.main(list(map(str, words)))
+    finally:
+        signal.signal(signal.SIGTERM, before)        # the front end has a way of its own to be ended
     return status, wrote.getvalue(), said.getvalue()
 
 

@@ -65,7 +65,7 @@ class Made(unittest.TestCase):
                 counts.append((len(demands), len(arriving)))
                 classes = len(net["hosts"]) * len(net["vlans"]) * len(firsts(old, new))
                 self.assertIn(f"of {classes} classes of packets must arrive; the others stay free", said)
-        self.assertLess(sum(count for count, _ in counts), sum(count for _, count in counts) / 2)
+        self.assertLess(sum(count for count, _ in counts), sum(count for _, count in counts))
 
     def waypoints(self, mine, name, before, after, through):
         """What both paths of a class meet is demanded of it, each switch, and in its order where both agree."""
