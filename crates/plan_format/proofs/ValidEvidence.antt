@@ -127,6 +127,12 @@ next_use numberings befores place before after d all e =
     subst (AllByRecursion (IsValidUse numberings befores)) (ok_is {E = PlanFault} (before ++ shared ∷ []) after e1)
     (each_push (IsValidUse numberings befores) before shared all (shared_is Uses place numberings befores words.0 words.1 shared h1))))
 
+uses_are : (numberings befores : ℕ) (top : Data) (uses : List Shared) → uses_in numberings befores top ≡ Ok uses → AllByRecursion (IsValidUse numberings befores) uses
+unfolding uses_in
+uses_are numberings befores top uses e =
+    step (need (list_at (codes "uses") top) (Shape Uses 0)) _ uses e (λ items h0 e0.
+    in_turn-keeps (use_at numberings befores) (AllByRecursion (IsValidUse numberings befores)) (λ n s t d all h. next_use numberings befores n s t d all h) 0 [] uses items tt e0)
+
 -- ---- picks of an ordered plan
 
 before_is : (p q : OrderedPick) → pick_before p q ≡ true → IsPickBefore p q
@@ -178,6 +184,15 @@ pub record IsTable (rounds numberings befores : ℕ) (t : PickTable) : Type 0 wh
   pub uses : AllByRecursion (IsValidUse numberings befores) t.uses
   pub picks : AllByRecursion (IsValidPick rounds (length t.uses)) t.picks
   pub chain : IsChain IsPickBefore t.picks
+
+pub uses_and_picks_are : (rounds numberings befores : ℕ) (top : Data) (t : PickTable) → uses_and_picks_in rounds numberings befores top ≡ Ok t → IsTable rounds numberings befores t
+unfolding uses_and_picks_in
+uses_and_picks_are rounds numberings befores top t e =
+    step (uses_in numberings befores top) _ t e (λ uses h0 e0.
+    step (picks_in rounds (length uses) top) _ t e0 (λ picks h1 e1.
+    let all = picks_are rounds (length uses) top picks h1 in
+    let one : PickTable = record { uses = uses; picks = picks } in
+    subst (IsTable rounds numberings befores) (ok_is {E = PlanFault} one t e1) (record { uses = uses_are numberings befores top uses h0; picks = all.each; chain = all.chain })))
 
 -- ---- picks of format 1
 

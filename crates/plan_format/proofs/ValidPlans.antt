@@ -28,7 +28,7 @@ use Rattle.plan_format.specs.declared.fault.PlanFault.{PlanFault}
 use Rattle.plan_format.specs.declared.fault.PlanFault.TheVariants.{NotJson, Shape, BadFormat, Memory}
 use Rattle.plan_format.proofs.ReadLaws.{step}
 use Rattle.plan_format.proofs.ValidChanges.{IsSpelling, rules_are, rounds_are}
-use Rattle.plan_format.proofs.ValidEvidence.{IsTable, numberings_are, befores_are, full_picks_are, labels_are, label_picks_are}
+use Rattle.plan_format.proofs.ValidEvidence.{IsTable, numberings_are, befores_are, full_picks_are, uses_and_picks_are, labels_are, label_picks_are}
 
 module _ (net : Network) where
   spelling_is : (format : Format) (top : Data) (spelling : Spelling) → spelling_in net format top ≡ Ok spelling → IsSpelling net spelling

@@ -82,6 +82,13 @@ unfolding use_at shared_in all_below
 next_use numberings befores place before u h =
     rw (numbers_again _ Uses place u.befores h.2, index_again numberings u.numbering h.0 h.1, below_again befores u.befores h.2) refl
 
+pub uses_again : (numberings befores : ℕ) (ms : Members) (uses : List Shared) → get_member (codes "uses") ms ≡ Some (list_tree (map use_tree uses))
+    → AllByRecursion (IsValidUse numberings befores) uses → uses_in numberings befores (object ms) ≡ Ok uses
+unfolding uses_in
+uses_again numberings befores ms uses at hs =
+    rw (at, list_of-items_of (map use_tree uses))
+    (each_again (use_at numberings befores) use_tree (IsValidUse numberings befores) (λ i. next_use numberings befores (place_of i)) uses hs)
+
 either_true : (b : Bool) → (b || true) ≡ true
 either_true true = refl
 either_true false = refl

@@ -29,7 +29,8 @@ use Rattle.plan_format.specs.Plans.{spelling_in, ordered_in, two_phase_in, evide
 use Rattle.plan_text.specs.PlanText.{with_evidence, plan_members, plan_tree, used_rules, tried_of, rules_once, rules_of}
 use Rattle.plan_format.specs.declared.rules.PlanRule.{PlanRule}
 use Rattle.plan_text.proofs.ChangesAgain.{IsInRange, HasNumber, rules_again, rounds_again}
-use Rattle.plan_text.proofs.EvidenceAgain.{numberings_again, befores_again, picks_again, labels_again, label_picks_again}
+use Rattle.plan_text.proofs.EvidenceAgain.{numberings_again, befores_again, uses_again, picks_again, labels_again, label_picks_again}
+use Rattle.plan_text.proofs.UsedAgain.{used_numbered, used_in_range, used_few}
 use Rattle.net_base.specs.Switches.{most_switches}
 
 -- ---- with a list of rules that has those of all changes

@@ -38,6 +38,15 @@ either_true false = refl
 found_at : (p : PlanRule) (before after : List PlanRule) → IsFound (before ++ p ∷ after) p
 found_at p before after = list_any-append (plan_rule_eq p) before (p ∷ after) ∙ rw (plan_rule_eq-refl p) (either_true (list_any (plan_rule_eq p) before))
 
+each_found : (before ps : List PlanRule) → AllByRecursion (IsFound (before ++ ps)) ps
+each_found before [] = tt
+each_found before (p ∷ ps) =
+    (found_at p before ps, subst (λ (l : List PlanRule). AllByRecursion (IsFound l) ps) (append_assoc before (p ∷ []) ps) (each_found (before ++ p ∷ []) ps))
+
+found_in_once : (ps qs : List PlanRule) → AllByRecursion (IsFound ps) qs → AllByRecursion (IsFound (rules_once ps)) qs
+found_in_once ps [] hs = tt
+found_in_once ps (q ∷ qs) hs = (found_once q ps ∙ hs.0, found_in_once ps qs hs.1)
+
 found_within : {A : Type 0} (test : A → Bool) (xs : List A) → list_any test xs ≡ true → position_or_len test xs < length xs
 found_within test [] e = absurd (false≢true e)
 found_within test (x ∷ xs) e =
@@ -54,11 +63,48 @@ numbered rules p e =
     let h = position-Some (plan_rule_eq p) rules i p at in
     ap (λ o. slice_get rules (unwrap_or o 0)) at ∙ slice_get-get_or rules i p lt ∙ ap (λ q. Some q) (sym (plan_rule_eq-true p (get_or rules i p) h.1))
 
+round_numbered : (rules : List PlanRule) (round : List Change) (rest : List PlanRule) → AllByRecursion (IsFound rules) (map plan_rule_of round ++ rest)
+    → AllByRecursion (HasNumber rules) round × AllByRecursion (IsFound rules) rest
+round_numbered rules [] rest hs = (tt, hs)
+round_numbered rules (c ∷ round) rest hs = let more = round_numbered rules round rest hs.1 in ((numbered rules (plan_rule_of c) hs.0, more.0), more.1)
+
+rounds_numbered : (rules : List PlanRule) (rounds : List (List Change)) → AllByRecursion (IsFound rules) (rules_of rounds) → AllByRecursion (AllByRecursion (HasNumber rules)) rounds
+rounds_numbered rules [] hs = tt
+rounds_numbered rules (round ∷ rounds) hs = let h = round_numbered rules round (rules_of rounds) hs in (h.0, rounds_numbered rules rounds h.1)
+
+-- each change has the number of its rule
+pub used_numbered : (rounds : List (List Change)) → AllByRecursion (AllByRecursion (HasNumber (rules_once (rules_of rounds)))) rounds
+used_numbered rounds = rounds_numbered (rules_once (rules_of rounds)) rounds (found_in_once (rules_of rounds) (rules_of rounds) (each_found [] (rules_of rounds)))
+
 -- ---- ranges
 
 each_once : (P : PlanRule → Type 0) (ps : List PlanRule) → AllByRecursion P ps → AllByRecursion P (rules_once ps)
 each_once P [] hs = tt
 each_once P (p ∷ ps) hs = (hs.0, each_filter P (λ q. not (plan_rule_eq p q)) (rules_once ps) (each_once P ps hs.1))
+
+change_in_range : (net : Network) (c : Change) → IsPlanChange net c → IsInRange net (plan_rule_of c)
+change_in_range net c h = record {
+  switch = h.switch;
+  priority = h.priority;
+  priority_most = h.priority_most;
+  port = h.port;
+  vlan = h.vlan;
+  dst = h.dst;
+  action = h.action;
+}
+
+round_in_range : (net : Network) (round : List Change) → AllByRecursion (IsPlanChange net) round → AllByRecursion (IsInRange net) (map plan_rule_of round)
+round_in_range net [] hs = tt
+round_in_range net (c ∷ round) hs = (change_in_range net c hs.0, round_in_range net round hs.1)
+
+rounds_in_range : (net : Network) (rounds : List (List Change)) → AllByRecursion (AllByRecursion (IsPlanChange net)) rounds → AllByRecursion (IsInRange net) (rules_of rounds)
+rounds_in_range net [] hs = tt
+rounds_in_range net (round ∷ rounds) hs =
+    each_append (IsInRange net) (map plan_rule_of round) (rules_of rounds) (round_in_range net round hs.0) (rounds_in_range net rounds hs.1)
+
+-- each rule is in range
+pub used_in_range : (net : Network) (rounds : List (List Change)) → AllByRecursion (AllByRecursion (IsPlanChange net)) rounds → AllByRecursion (IsInRange net) (rules_once (rules_of rounds))
+used_in_range net rounds hs = each_once (IsInRange net) (rules_of rounds) (rounds_in_range net rounds hs)
 
 -- ---- how many
 
@@ -71,3 +117,7 @@ shorter (p ∷ ps) =
 
 as_many : (rounds : List (List Change)) → length (rules_of rounds) ≡ sum_by length rounds
 as_many rounds = length-flat_map (map plan_rule_of) rounds ∙ ap (λ (f : List Change → ℕ). sum_by f rounds) (λ j round. length-map round plan_rule_of j)
+
+-- there are at most as many as changes
+pub used_few : (rounds : List (List Change)) → length (rules_once (rules_of rounds)) ≤ sum_by length rounds
+used_few rounds = omega (arith, shorter (rules_of rounds), as_many rounds)

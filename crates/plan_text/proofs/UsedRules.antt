@@ -82,6 +82,10 @@ uses_after : (before ps : List PlanRule) → with_uses (rules_once before) ps �
 uses_after before [] = ap rules_once (sym (append-nil before))
 uses_after before (p ∷ ps) = rw (← once_push before p) (uses_after (before ++ p ∷ []) ps ∙ ap rules_once (append_assoc before (p ∷ []) ps))
 
+pub uses_push : (before ps : List PlanRule) (p : PlanRule) → with_uses before (ps ++ p ∷ []) ≡ with_use (with_uses before ps) p
+uses_push before [] p = refl
+uses_push before (q ∷ ps) p = uses_push (with_use before q) ps p
+
 -- the uses of rounds, and then of more rounds
 pub plan_uses : (rounds tried : List (List Change)) → with_uses (with_uses [] (rules_of rounds)) (rules_of tried) ≡ rules_once (rules_of (rounds ++ tried))
 plan_uses rounds tried =

@@ -4,6 +4,7 @@ use Rattle.update_model.specs.declared.Change.{Change}
 use Rattle.plan_format.specs.declared.rules.PlanRule.{PlanRule}
 use Rattle.plan_text.specs.PlanText.{plan_rule_of}
 use Rattle.plan_text.specs.Uses.{with_use, with_uses}
+use Rattle.plan_text.proofs.UsedRules.{uses_push}
 use Rattle.plan_text.proofs.write_used.UsedRules.add_round.Goals as goal
 
 pub loop-change-preserved : goal.loop-change-preserved
