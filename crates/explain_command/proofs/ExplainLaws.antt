@@ -1,20 +1,32 @@
 -- What a run of `explain` says of the files of a source that tells.
-use Rattle.std.proofs.Common.{◌≡◌, ◌⊎◌, ◌↔◌, ℕ, List, Some, ap, ◌∙◌, subst, inl, inr, arith}
+use Rattle.std.proofs.Common.{◌≡◌, ◌⊎◌, ◌↔◌, ℕ, true, false, List, Some, ap, ◌∙◌, subst, inl, inr, arith}
 use Rattle.std.specs.declared.option.Option.{Option}
 use Rattle.std.specs.Io.KnownBytes.{Appends}
 use Rattle.file_access.specs.Outside.{Files}
+use Rattle.config_files.proofs.UserTables.{configuration_shown}
+use Rattle.certificates.specs.Certified.{is_two_phase}
+use Rattle.certificates.specs.Consistent.{IsConsistent}
+use Rattle.certificates.specs.declared.Evidence.{Evidence}
+use Rattle.certificates.specs.declared.Evidence.TheVariants.{Ordered, TwoPhase}
+use Rattle.certificates.specs.declared.OrderedEvidence.{OrderedEvidence}
 use Rattle.command_base.specs.declared.status.Status.{Status}
 use Rattle.command_base.specs.declared.status.Status.TheVariants as status
 use Rattle.command_base.specs.Runs.{IsComplete, Answered}
 use Rattle.command_base.proofs.AnswerLaws.{texts_same, first_byte}
-use Rattle.command_base.proofs.JudgementLaws.{judges, judged_done, judged_then, refusals}
+use Rattle.command_base.proofs.JudgementLaws.{judges, judged_done, judged_then, refusals, says_of}
 use Rattle.command_base.proofs.RunLaws.{settled_done}
 use Rattle.check_base.specs.Names.{CheckNames}
 use Rattle.check_base.specs.Checks.{CheckMeaning, check_dialogue, FilesMeanPlan, task_in}
 use Rattle.check_base.proofs.FileLaws.{check_meant}
-use Rattle.explain_command.specs.Explained.{IsExplainAnswer, IsExplanation, IsBreakingSchedule, NothingBreaks, SomethingBreaks, nothing_line, WritesBreakingRun, WritesNothingBreaks}
+use Rattle.explain_command.specs.Explained.{CanBeExplained, IsExplainAnswer, IsExplanation, IsBreakingSchedule, NothingBreaks, SomethingBreaks, nothing_line, WritesBreakingRun, WritesNothingBreaks}
 use Rattle.explain_command.specs.Promise.{ExplainPromise}
+use Rattle.explain_command.proofs.SafeLaws.{safe_rounds}
 use Rattle.explain_command.proofs.ScheduleLaws.{begins_so}
+
+-- the evidence of an ordered plan
+ordered_of : (evidence : Evidence) → is_two_phase evidence ≡ false → OrderedEvidence
+ordered_of (Ordered evidence) is = evidence
+ordered_of (TwoPhase evidence) is = absurd (let e : true ≡ false = is in cc)
 
 -- of a settled run of `explain` over a source that tells, whose mixed walks are looked at
 module _ (files : Files) (names : CheckNames) (old new : Option (List ℕ)) (result : Status) (a : Answered IsExplainAnswer files (check_dialogue names) old new result)
@@ -65,6 +77,15 @@ module _ (files : Files) (names : CheckNames) (old new : Option (List ℕ)) (res
     | inr none ↦ none.none
   ]
 
+  can : CanBeExplained m
+  can = (says_of (judges (check_meant files names) a) m mean (λ e. cc) (λ e. cc)).holds
+
+  -- where no mixed walk breaks its duties the rounds are consistent
+  consistent : NothingBreaks (task_in m) → IsConsistent m.update m.plan.rounds false
+  consistent none =
+      let user = configuration_shown m.update.net mean.update_is.old_is.bytes m.update.old mean.update_is.old_is.means in
+      safe_rounds m.update m.plan.rounds user (ordered_of m.plan.evidence can.ordered) can.ends can.good none
+
 pub promised : (files : Files) (names : CheckNames) (old new : Option (List ℕ)) (result : Status) → (IsComplete result → Answered IsExplainAnswer files (check_dialogue names) old new result) → ExplainPromise files names old new result
 promised files names old new result answered = record {
   done = λ settled. judged_done (judges (check_meant files names) (answered settled));
@@ -72,5 +93,8 @@ promised files names old new result answered = record {
   shown = λ m mean is. shown files names old new result (answered (settled_done _ is)) is m mean;
   nothing = λ m mean is. nothing files names old new result (answered (settled_done _ is)) is m mean;
   nothing_only = λ m mean before told is line. nothing_only files names old new result (answered (settled_done _ is)) is m mean before told line;
+  consistent = λ m mean before told is line.
+      let a = answered (settled_done _ is) in
+      consistent files names old new result a is m mean (nothing_only files names old new result a is m mean before told line);
   refusals = refusals (λ settled. judges (check_meant files names) (answered settled));
 }

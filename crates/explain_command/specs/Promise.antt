@@ -1,7 +1,8 @@
 -- What a run of `explain` promises over the files of a source that tells.
-use Rattle.std.specs.Prelude.{◌≡◌, ◌⊎◌, ◌↔◌, ℕ, List, Option, Some}
+use Rattle.std.specs.Prelude.{◌≡◌, ◌⊎◌, ◌↔◌, ℕ, false, List, Option, Some}
 use Rattle.std.specs.Io.KnownBytes.{Appends}
 use Rattle.file_access.specs.Outside.{Files}
+use Rattle.certificates.specs.Consistent.{IsConsistent}
 use Rattle.command_base.specs.declared.status.Status.{Status}
 use Rattle.command_base.specs.declared.status.Status.TheVariants as status
 use Rattle.command_base.specs.JudgedFiles.{FilesAreGood, RefusalPromise}
@@ -23,6 +24,9 @@ pub record ExplainPromise (files : Files) (names : CheckNames) (old new : Option
   pub nothing : (m : CheckMeaning) → FilesMeanPlan files names m → result ≡ status.Done → (WritesNothingBreaks m old new ↔ NothingBreaks (task_in m))
   -- The line is written for no other cause.
   pub nothing_only : (m : CheckMeaning) → FilesMeanPlan files names m → (before : List ℕ) → old ≡ Some before → result ≡ status.Done → Appends old new nothing_line → NothingBreaks (task_in m)
+  -- Where it is written the rounds are consistent: in every state of every run of them each packet meets the demands, whichever changes of a
+  -- round were made by then, in whichever order.
+  pub consistent : (m : CheckMeaning) → FilesMeanPlan files names m → (before : List ℕ) → old ≡ Some before → result ≡ status.Done → Appends old new nothing_line → IsConsistent m.update m.plan.rounds false
   -- Refused comes exactly where one of these fails, and the line names the first: a configuration, a round, or that the plan is of two
   -- phases; too many classes are a bad file.
   pub refusals : RefusalPromise (FilesMeanPlan files names) check_count CanBeExplained IsCauseLine old new result

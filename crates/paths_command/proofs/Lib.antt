@@ -1,4 +1,5 @@
 pub mod OneBreak
 pub mod RowLaws
+pub mod AddressLaws
 pub mod ListingLaws
 pub mod PathsLaws

@@ -4,7 +4,7 @@ use Rattle.std.specs.Prelude.{slice_get, flat_map}
 use Rattle.std.proofs.lemmas.Bool.{false≢true}
 use Rattle.topology.specs.Networks.{Network}
 use Rattle.flow_rules.specs.declared.rules.Rule.{Rule}
-use Rattle.dest_classes.specs.Classes.{IsClass, class_count}
+use Rattle.dest_classes.specs.Classes.{IsClass}
 use Rattle.dest_classes.specs.declared.Class.{Class}
 use Rattle.dest_classes.proofs.MapLaws.{number_fits, class_is}
 use Rattle.demands.specs.Duties.{DemandView, duties_of}
@@ -22,7 +22,7 @@ use Rattle.config_command.specs.Verdicts.{classes_under, HoldsUnder}
 use Rattle.paths_command.specs.declared.marks.Counts.{Counts}
 use Rattle.paths_command.specs.declared.marks.Mark.{Mark}
 use Rattle.paths_command.specs.declared.marks.Mark.TheVariants.{Good, Free, Breaks}
-use Rattle.paths_command.specs.Rows.{ClassRow, IsRow, AreRows, IsMark}
+use Rattle.paths_command.specs.Rows.{ClassRow, AreRows, IsMark}
 use Rattle.paths_command.specs.Lines.{row_line, counts_text, counts_of, paths_text, is_break}
 use Rattle.paths_command.specs.Listed.{IsListing, IsPathsText, IsPathsAnswer, listed_status}
 use Rattle.paths_command.specs.Promise.{IsFirstBreakRow}

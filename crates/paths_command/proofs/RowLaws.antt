@@ -7,7 +7,7 @@ use Rattle.config_command.specs.Configs.{ConfigMeaning}
 use Rattle.paths_command.specs.declared.marks.Counts.{Counts}
 use Rattle.paths_command.specs.declared.marks.Mark.{Mark}
 use Rattle.paths_command.specs.declared.marks.Mark.TheVariants.{Good, Free, Breaks}
-use Rattle.paths_command.specs.Rows.{ClassRow, IsRow, AreFirstRows}
+use Rattle.paths_command.specs.Rows.{ClassRow, IsRow}
 use Rattle.paths_command.specs.Lines.{row_line, counts_of, is_good, is_free, is_break}
 use Rattle.paths_command.specs.Listed.{IsListing}
 

@@ -9,18 +9,20 @@ use Rattle.command_base.specs.declared.status.Status.TheVariants as status
 use Rattle.command_base.specs.JudgedFiles.{RefusalPromise}
 use Rattle.command_base.specs.Runs.{IsComplete}
 use Rattle.config_command.specs.Names.{ConfigNames}
-use Rattle.config_command.specs.Configs.{ConfigMeaning, FilesMean, Holds, FilesHold, config_count}
+use Rattle.config_command.specs.Configs.{ConfigMeaning, FilesMean, Holds, FilesHold, KeepsPacketsGood, config_count}
 use Rattle.config_command.specs.Promise.{ConfigPromise}
 use Rattle.config_command.specs.Verdicts.{classes_under}
 use Rattle.paths_command.specs.declared.marks.Mark.TheVariants.{Breaks}
 use Rattle.paths_command.specs.Listed.{IsPathsText}
 use Rattle.paths_command.specs.Rows.{ClassRow, AreRows}
+use Rattle.paths_command.specs.Addresses.{SpeakForAll}
 use Rattle.paths_command.specs.Lines.{paths_text, is_break}
 
--- the listing that was written: of each class its path and the verdict on it, and the counts
+-- the listing that was written: of each class its path and the verdict on it, which are those of each address of the class, and the counts
 pub record WritesPaths (m : ConfigMeaning) (old new : Option (List ℕ)) : Type 0 where
   pub rows : List ClassRow
   pub are : AreRows m rows
+  pub speak : SpeakForAll m rows
   pub written : Appends old new (paths_text m.net rows)
 
 -- the first row that is neither good nor free is that of the break, with its word and its switch
@@ -47,9 +49,12 @@ pub record PathsPromise (files : Files) (names : ConfigNames) (old new : Option 
     (result : Status) : Type 0 where
   -- Done comes exactly where the files are read, with at most 8192 classes, each with a good path.
   pub done : IsComplete result → ((result ≡ status.Done) ↔ FilesHold files names)
+  -- Then every packet of every run over the configuration, in which nothing is changed, meets the demands.
+  pub keeps : (m : ConfigMeaning) → FilesMean files names m → result ≡ status.Done → KeepsPacketsGood m.net m.tables m.demands
   -- Refused comes exactly where some class has no good path, with the listing; too many classes are a bad file.
   pub refusals : RefusalPromise (FilesMean files names) config_count Holds IsPathsText old new result
-  -- In both cases the listing is written: of each class the path and the verdict, and the counts.
+  -- In both cases the listing is written: of each class the path and the verdict, and the counts. Each entry and each address is of a class
+  -- that has a line, and the path and the verdict there are those of every address of the class.
   pub lists : (m : ConfigMeaning) → FilesMean files names m
       → (result ≡ status.Done) ⊎ (result ≡ status.Refused) → WritesPaths m old new
   -- Where it is refused, the first line neither good nor free is that of the break that `config` names.

@@ -1,13 +1,11 @@
-use Rattle.std.proofs.Common.{◌≡◌, ◌<◌, ◌≤◌, List, map, sym, subst, arith}
+use Rattle.std.proofs.Common.{◌<◌, ◌≤◌, List, map, sym, subst, arith}
 use Rattle.net_base.specs.declared.ids.Place.{Place}
 use Rattle.net_base.specs.Places.{stop_of}
-use Rattle.flow_rules.specs.Tables.{rules_of_all}
 use Rattle.dest_classes.specs.Classes.{ClassList, IsClass, class_count}
 use Rattle.dest_classes.proofs.MapLaws.{number_fits}
 use Rattle.path_walk.specs.Walked.{PathEndsAs}
 use Rattle.command_base.specs.Judgements.{most_classes}
 use Rattle.config_command.specs.Configs.{config_count}
-use Rattle.config_command.specs.Verdicts.{classes_under}
 use Rattle.paths_command.specs.Rows.{row_seen}
 use Rattle.paths_command.specs.Listed.{meaning_of}
 use Rattle.paths_command.proofs.RowLaws.{room_for_one, one_more}
