@@ -25,7 +25,7 @@ class Lint(unittest.TestCase):
                 self.assertIn(words, " ".join(line for _, line in lint.of_python(path)))
 
     def test_what_is_used_is_not_found(self):
-        text = "import os.path\nimport sys as system\n\n\ndef f():\n    a = 1\n\n    def g():\n        return a\n    return g, os.path, system, f'{1:{a}}'\n"
+        text = "from __future__ import annotations\nimport os.path\nimport sys as system\nfrom re import match\n\n__all__ = ['match']\n\n\ndef f():\n    a = 1\n\n    def g():\n        return a\n    return g, os.path, system, f'{1:{a}}'\n"
         with tempfile.TemporaryDirectory() as folder:
             path = os.path.join(folder, "one.py")
             with open(path, "w", encoding="utf-8") as file:
