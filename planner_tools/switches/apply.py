@@ -60,6 +60,7 @@ class Update(Comparison):
     """An update, round by round."""
 
     slowest_told = 0.0       # the longest time for an answer that was told
+    slow_words = ""          # what was told of it, for the remark on the next round
 
     def run(self):
         begun = time.monotonic()
@@ -124,6 +125,7 @@ class Update(Comparison):
     def begin_round(self):
         """Begins the next round, or to undo the one that was settled last."""
         waited = f"after a wait of {time.monotonic() - self.settled_at:.3f} s{', as the operator said' if self.options.ask else ''}"
+        waited, self.slow_words = waited + self.slow_words, ""
         self.record.remark(f"round {self.core.settled} is undone, {waited}" if self.options.back else f"round {self.core.settled + 1} starts, {waited}")
         self.started_at, self.asked = time.monotonic(), False
         self.sent_rounds += 1
@@ -166,9 +168,9 @@ class Update(Comparison):
         if self.options.ask or seconds <= self.options.wait / 2 or seconds <= 1.25 * self.slowest_told:
             return
         self.slowest_told = seconds
-        words = (f"{name} took {seconds:.1f} s to answer, more than {'the' if seconds > self.options.wait else 'half of the'} wait of {self.options.wait:g} s: where switches are that busy packets "
+        words = (f"{name} took {seconds:.{1 if seconds >= 1 else 3}f} s to answer, more than {'the' if seconds > self.options.wait else 'half of the'} wait of {self.options.wait:g} s: where switches are that busy packets "
                  f"may be under way for longer than it too, and be broken by the next round; --wait {math.ceil(2 * seconds)} would do")
-        self.record.remark(words)
+        self.slow_words = f"; {words}"
         progress(words)
 
     def after_refusal(self, status, text):

@@ -27,6 +27,7 @@ from planner_tools.switches import openflow
 from planner_tools.switches.connections import OWN, Stop, Switches, host_and_port, read_switches, say
 from planner_tools.switches.entries import Entry, ExtendedEntry, cut_entries
 from planner_tools.switches.expected import Answers
+from planner_tools.switches.marks import Mark
 
 # The xids of a run of questions: these, over a number of its own.
 FLOW_XID, EXTENDED_XID, BARRIER_XID = 1, 2, 3
@@ -102,13 +103,20 @@ class Tables:
         """The marks of updates, each with the switches that have it."""
         found = {}
         for name in self.names:
-            for mark in self.answers[name].marks():
+            for mark in filter(None, map(Mark.of, self.entries(name))):
                 found.setdefault(mark, []).append(name)
         return found
 
+    def entries(self, name):
+        """The entries of a switch; none where they don't fill its statistics, which is said elsewhere."""
+        try:
+            return self.answers[name].entries()
+        except (ValueError, struct.error):
+            return []
+
     def has_tagging_entries(self):
         """Whether there are entries of the priorities that only two-phase plans use."""
-        return any(one.priority > LAST_PRIORITY and not one.oddity() for answers in self.answers.values() for one in answers.entries())
+        return any(one.priority > LAST_PRIORITY and not one.oddity() for name in self.names for one in self.entries(name))
 
     def replies(self):
         """The text of the file REPLIES. Where an entry must be refused, all such are said, and then it is Stop. Those that an update under way has made are

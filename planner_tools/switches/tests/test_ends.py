@@ -115,11 +115,11 @@ class Ends(UpdateTest):
     def test_answers_that_take_longer_than_half_of_the_wait_are_said_with_a_wait_that_would_do(self):
         for delay, wait, words in ((0.5, "0.1", "more than the wait of 0.1 s"), (0.7, "1", "more than (the|half of the) wait of 1 s")):
             with self.subTest(wait):
-                net = Network(self, "square", only={"s3": {"delay": delay}})
+                net = Network(self, "square", only={"s1": {"delay": delay}})
                 run = net.apply("--wait", wait)
                 self.settles(net, run)
-                self.assertRegex(run[1], rf"s3 took [0-9.]+ s to answer, {words}: .*; --wait [1-9][0-9]* would do")
-                self.assertRegex(net.record.read_text(), r"s3 took [0-9.]+ s to answer, more than")
+                self.assertRegex(run[1], rf"s1 took [0-9.]+ s to answer, {words}: .*; --wait [1-9][0-9]* would do")
+                self.assertRegex(net.record.read_text(), r"round 2 starts, after a wait of .*; s1 took [0-9.]+ s to answer, more than")
 
     # ---- marks of others
 
