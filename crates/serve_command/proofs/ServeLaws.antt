@@ -193,6 +193,11 @@ front_of (Some all) None taken p = absurd p
 front_of (Some all) (Some rest) taken p = (rest, p)
 
 -- some bytes of the input were taken, and the lines that they end were served
+pub record Taking (v : DriverView) (input left old new : Option (List ℕ)) (counted : ℕ) (d : DriverView) (line : List ℕ) : Type 0 where
+  pub taken : List ℕ
+  pub consumed : Consumes input left taken
+  pub count : counted ≡ raised_count 0 (length taken)
+  pub served : HasServed v old new taken d line
 
 counted_more : (n m top : ℕ) → min (min (0 + n) top + m) top ≡ min (0 + (n + m)) top
 counted_more n m top = omega arith
