@@ -22,13 +22,15 @@ WITH_OUTPUT = ("collect", "from-graphml", "from-mininet", "from-ofctl", "page", 
 # Those of them in which a folder stands for names.
 UNFOLDING = ("apply", "collect", "page")
 WRONG_WORDS, UNWRITTEN, INTERRUPTED = 2, 7, 130
+# So many seconds are waited before each round where `--wait` doesn't say otherwise.
+WAIT = 2.0
 
 
 class Options:
     """The options of the front end, taken out of the words."""
 
     def __init__(self):
-        self.is_quiet, self.is_strict, self.output = False, False, None
+        self.is_quiet, self.is_strict, self.output, self.wait = False, False, None, WAIT
 
 
 def take_options(words):
@@ -46,6 +48,20 @@ def take_options(words):
         else:
             rest.append(word)
     return options, rest
+
+
+def take_wait(words, options):
+    """The words of `pack` without `--wait SECONDS`."""
+    if words[:1] != ["pack"] or "--wait" not in words:
+        return words
+    at = words.index("--wait")
+    try:
+        options.wait = float(words[at + 1])
+    except (IndexError, ValueError):
+        raise ValueError("behind --wait a number of seconds is missing") from None
+    if not 0 <= options.wait < float("inf"):
+        raise ValueError(f"--wait {words[at + 1]}: no number of seconds")
+    return words[:at] + words[at + 2:]
 
 
 def ended(number, _):
@@ -85,6 +101,7 @@ def answer(words):
         if words and words[0] in MODULES and words[0] not in WITH_OUTPUT:
             return run_module(words, Options())
         options, rest = take_options(words)
+        rest = take_wait(rest, options)
         signal.signal(signal.SIGTERM, ended)
         return run_module(rest, options) if rest and rest[0] in MODULES else Run(rest, options).run()
     except Stop as stop:

@@ -1,5 +1,6 @@
 """One run of a proved command: the files that its words name, warnings before it, its text and status, which are handed on as they are, and what is
 said beside them."""
+import json
 import os
 import subprocess
 import sys
@@ -17,7 +18,7 @@ STANDARD_OUTPUT = 1
 class Refusals:
     """The options of a run of which only refusals are told."""
 
-    is_quiet, is_strict, output = True, False, None
+    is_quiet, is_strict, output, wait = True, False, None, None
 
 
 def say_why(*given, good=(0,)):
@@ -93,11 +94,12 @@ class Run:
     @staticmethod
     def unfolded(folder, wanted, least, behind):
         """The words of a command whose first names are in a folder: as many as are left out stand for files of it."""
-        behind = [inside(folder, word) for word in behind]
         names = next((at for at, word in enumerate(wanted) if word not in words.FILES), len(wanted))
+        chosen = behind[-1:] if behind and names == least < len(wanted) and behind[-1] in words.CHOICES.get(wanted[names], ()) else []
+        behind = [inside(folder, word) for word in behind[:len(behind) - len(chosen)]]
         count = min(max(1, least - len(behind)), names)
         taken = [Given(path, path, folder) for path in (joined(folder, words.IN_FOLDER.get(word, "")) for word in wanted[:count])]
-        rest = [*taken, *behind]
+        rest = [*taken, *behind, *chosen]
         for word in wanted[len(rest):]:
             path = joined(folder, words.IN_FOLDER.get(word, ""))
             if os.path.isfile(path):
@@ -128,6 +130,7 @@ class Run:
             return BAD_FILE
         self.hand_on()
         self.safely(self.explain)
+        self.safely(self.tell_costs)
         for one in self.notes if self.status == 0 else []:
             self.voice.note(one.what, one.more)
         return self.status if self.status >= 0 else 128 - self.status
@@ -147,6 +150,20 @@ class Run:
             return
         from planner_tools.explanations import Explainer
         Explainer(self).explain()
+
+    def tell_costs(self):
+        """Behind a plan of `pack`, where a person reads: what it costs, and what one of the other kind would."""
+        if self.status != 0 or self.command.name != "pack" or not self.voice.is_read() or len(self.text.encode()) >= KEPT:
+            return
+        plan = json.loads(self.text)
+        if plan["rounds"]:
+            first, *more = self.costs().words(plan)
+            self.voice.note(first, more)
+
+    def costs(self):
+        """The costs of plans for the files of this run."""
+        from planner_tools.costs import Costs
+        return Costs(self.ask, [self.files[word].real for word in ("TOPO", "OLD", "NEW", "POLICY")], self.options.wait)
 
     def safely(self, work):
         """Does what isn't needed for the answer. Where it fails the answer stands all the same."""
