@@ -8,6 +8,7 @@ import re
 
 from planner_tools import network as nets
 from planner_tools.files import NotJson, counted, did_you_mean, like, member_path, read_json, short
+from planner_tools.words import CHOICES
 
 # Which word of a command a kind of file is, as the program names the kinds.
 WORD_OF_KIND = {"topology": "TOPO", "config": "CONFIG", "old": "OLD", "new": "NEW", "policy": "POLICY", "plan": "PLAN", "schedule": "SCHEDULE",
@@ -85,6 +86,8 @@ class Explainer:
             self.explain_no_evidence()
         elif line.startswith("no entry: "):
             self.explain_no_entry()
+        elif line == "no ordered plan":
+            self.explain_no_ordered()
         elif line.startswith("refused: 1 "):
             end, rest = line.split(" ", 3)[3].split(" at ", 1)
             self.explain_end(end.upper(), rest)
@@ -138,6 +141,13 @@ class Explainer:
                           "changes are made.",
                           more + [f"Next: `{self.command('explain', 'TOPO', 'OLD', 'NEW', 'POLICY', 'PLAN')}` looks for a run in which a packet breaks the policy",
                                   "Next: make some of the changes of that round in a later one"])
+
+    def explain_no_ordered(self):
+        """There is no ordered plan, and only such a one is asked for. Which packets stand in the way is looked for only where a person reads."""
+        more = self.run.costs().needed_words(self.run.text)[1:] if self.voice.is_read() else []
+        self.voice.refuse(f"{self.stuck_words()}, and only an ordered plan is asked for",
+                          [*more, f"Next: `{self.command('pack', 'TOPO', 'OLD', 'NEW', 'POLICY')} two-phase` makes a two-phase plan, where there are tags and room for it",
+                           "Next: an update in two steps with a configuration in between, or a policy that asks for less"])
 
     def explain_no_entry(self):
         _, _, entry, vlan = self.first.split(" ", 3)
@@ -236,7 +246,9 @@ class Explainer:
             self.voice.refuse(f"{counted(have, 'word')} stand behind `{command.name}`, and it takes {counted(len(wanted), 'word')}", [usage, *option_lines(given)])
         else:
             lines = [line for word, text in zip(wanted, behind) for line in spelling(word, text)]
-            if not lines and command.name in all_words.NEW:
+            if not lines and have > least and wanted[least] in CHOICES:
+                lines = [f"this program takes no {wanted[least]} for `{command.name}`: it is older than the front end"]
+            elif not lines and command.name in all_words.NEW:
                 lines = [f"this program has no command `{command.name}`: it is older than the front end"]
             self.voice.refuse("; ".join(lines) or "the words are wrong", [usage])
 
@@ -318,7 +330,9 @@ class Explainer:
                           [*more, f"Next: widen `tags` of {self.shown('TOPO')} to at least {counted(need, 'id')} from 1 to 4094 that the network uses for nothing else, or declare fewer `vlans`"])
 
     def stuck_words(self):
-        """How far the search for an ordered plan came."""
+        """How far the search for an ordered plan came, where one may be written."""
+        if self.run.passed[5:] == ["two-phase"]:
+            return "only two phases are asked for"
         found = re.search(r"^tried: (.*)$", self.run.text, re.M)
         try:
             rounds = len(json.loads(found[1]))
@@ -414,6 +428,8 @@ def spelling(word, text):
             return [f'ENTRY is {short(text)}, and has to be a host port, as s1:1']
     if word == "VLAN" and text != "untagged" and not (re.fullmatch(number, text) and len(text) < 5 and 1 <= int(text) <= nets.LAST_VLAN):
         return [f"VLAN is {short(text)}, and has to be `untagged` or a number from 1 to {nets.LAST_VLAN}"]
+    if word in CHOICES and text not in CHOICES[word]:
+        return [f"{word} is {short(text)}, and has to be {' or '.join(f'`{one}`' for one in CHOICES[word])}{did_you_mean(text, CHOICES[word])}"]
     if word == "ADDRESS" and nets.prefix(f"{text}/32") is None:
         return [f"ADDRESS is {short(text)}, and has to be an address, as 10.0.0.1"]
     return []

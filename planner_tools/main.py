@@ -28,13 +28,15 @@ WITH_OUTPUT = ("collect", "diff", "from-graphml", "from-mininet", "from-ofctl", 
 # Those of them in which a folder stands for names.
 UNFOLDING = ("apply", "collect", "page")
 WRONG_WORDS, UNWRITTEN, INTERRUPTED = 2, 7, 130
+# So many seconds are waited before each round where `--wait` doesn't say otherwise.
+WAIT = 2.0
 
 
 class Options:
     """The options of the front end, taken out of the words."""
 
     def __init__(self):
-        self.is_quiet, self.is_strict, self.is_warned, self.output = False, False, False, None
+        self.is_quiet, self.is_strict, self.is_warned, self.output, self.wait = False, False, False, None, WAIT
 
     def flags(self):
         """Those that a command of the front end takes itself."""
@@ -56,6 +58,20 @@ def take_options(words):
         else:
             rest.append(word)
     return options, rest
+
+
+def take_wait(words, options):
+    """The words of `pack` without `--wait SECONDS`."""
+    if words[:1] != ["pack"] or "--wait" not in words:
+        return words
+    at = words.index("--wait")
+    try:
+        options.wait = float(words[at + 1])
+    except (IndexError, ValueError):
+        raise ValueError("behind --wait a number of seconds is missing") from None
+    if not 0 <= options.wait < float("inf"):
+        raise ValueError(f"--wait {words[at + 1]}: no number of seconds")
+    return words[:at] + words[at + 2:]
 
 
 def ended(number, _):
@@ -112,6 +128,7 @@ def answer(words, begin=None):
         if words and words[0] in MODULES and words[0] not in WITH_OUTPUT:
             return run_module(words, Options())
         options, rest = take_options(words)
+        rest = take_wait(rest, options)
         import signal
         signal.signal(signal.SIGTERM, ended)
         return run_module(rest, options) if rest and rest[0] in MODULES else (begin or Run)(rest, options).run()

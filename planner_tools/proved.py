@@ -16,7 +16,7 @@ class How:
     """How a person wants runs of the program: quiet, where only refusals are told; strict, where warnings end them; or with the warnings about their files
     said already, by `look`."""
 
-    output = None
+    output, wait = None, None
 
     def __init__(self, is_quiet=False, is_strict=False, is_warned=False):
         self.is_quiet, self.is_strict, self.is_warned = is_quiet, is_strict, is_warned
@@ -116,11 +116,12 @@ class Run:
     @staticmethod
     def unfolded(folder, wanted, least, behind):
         """The words of a command whose first names are in a folder: as many as are left out stand for files of it."""
-        behind = [inside(folder, word) for word in behind]
         names = next((at for at, word in enumerate(wanted) if word not in words.FILES), len(wanted))
+        chosen = behind[-1:] if behind and names == least < len(wanted) and behind[-1] in words.CHOICES.get(wanted[names], ()) else []
+        behind = [inside(folder, word) for word in behind[:len(behind) - len(chosen)]]
         count = min(max(1, least - len(behind)), names)
         taken = [Given(path, path, folder) for path in (joined(folder, words.IN_FOLDER.get(word, "")) for word in wanted[:count])]
-        rest = [*taken, *behind]
+        rest = [*taken, *behind, *chosen]
         for word in wanted[len(rest):]:
             path = joined(folder, words.IN_FOLDER.get(word, ""))
             if os.path.isfile(path):
@@ -159,6 +160,7 @@ class Run:
         work()
         if self.status not in good or self.status == 0:
             self.safely(self.explain)
+            self.safely(self.tell_costs)
         if self.status == 0:
             self.say_notes()
         return self.status if self.status >= 0 else 128 - self.status
@@ -189,6 +191,21 @@ class Run:
             return
         from planner_tools.explanations import Explainer
         Explainer(self).explain()
+
+    def tell_costs(self):
+        """Behind a plan of `pack`, where a person reads: what it costs, and what one of the other kind would."""
+        if self.status != 0 or self.command.name != "pack" or self.options.wait is None or not self.voice.is_read() or len(self.text.encode()) >= KEPT:
+            return
+        import json
+        plan = json.loads(self.text)
+        if plan["rounds"]:
+            first, *more = self.costs().words(plan)
+            self.voice.note(first, more)
+
+    def costs(self):
+        """The costs of plans for the files of this run."""
+        from planner_tools.costs import Costs
+        return Costs(self.ask, [self.files[word].real for word in ("TOPO", "OLD", "NEW", "POLICY")], self.options.wait)
 
     def safely(self, work):
         """Does what isn't needed for the answer. Where it fails the answer stands all the same."""

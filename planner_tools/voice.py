@@ -28,6 +28,10 @@ class Voice:
         self.stream, self.is_quiet = stream or sys.stderr, is_quiet
         self.has_colour = has_colour(self.stream)
 
+    def is_read(self):
+        """Whether a person reads what is said: it goes to a terminal, and isn't quiet."""
+        return not self.is_quiet and self.stream.isatty()
+
     def refuse(self, what, more=()):
         self.say("planner: ", RED, what, more)
 

@@ -34,6 +34,7 @@ COMMANDS = [
     "replay topology.json old.json plan.json none", "import topology.json plan.json", "drive topology.json old.json new.json policy.json plan.json README.md",
     "upgrade topology.json topology.json", "config topology.json policy.json", "plan plan.json old.json new.json policy.json", "sample 4", "sample 16", "sample 3",
     "none", "plan", "check a b c d e", "paths topology.json old.json policy.json", "paths topology.json new.json", "config topology.json old.json policy.json more",
+    *(f"pack topology.json old.json new.json policy.json{kind}" for kind in ("", " ordered", " two-phase", " none", " ordered ordered")),
 ]
 SQUARE_COMMANDS = [
     "check topology.json old.json new.json policy.json plan-at-once.json", "explain topology.json old.json new.json policy.json plan-at-once.json",

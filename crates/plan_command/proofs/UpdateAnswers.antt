@@ -19,7 +19,7 @@ use Rattle.plan_format.specs.Plans.{plan_in}
 use Rattle.plan_text.specs.PlanText.{plan_text}
 use Rattle.table_difference.specs.Targets.{Target}
 use Rattle.round_planner.specs.Search.{EndsOrdered, EndsStuck}
-use Rattle.round_planner.specs.Updates.{update_classes, update_count, update_target, bare_task, KeepsConsistent}
+use Rattle.round_planner.specs.Updates.{update_classes, update_count, bare_task, KeepsConsistent}
 use Rattle.tag_allocator.specs.Tags.{available_tags}
 use Rattle.two_phase.specs.TwoPhasePlan.{two_phase_need}
 use Rattle.two_phase.specs.Laws.{FitsTwoPhase}
