@@ -1,5 +1,5 @@
 -- A class that a cause names is one of the classes.
-use Rattle.std.proofs.Common.{ℕ, ◌<◌, IfSome}
+use Rattle.std.proofs.Common.{◌<◌, IfSome}
 use Rattle.dest_classes.specs.Classes.{class_count}
 use Rattle.dest_classes.proofs.MapLaws.{number_fits}
 use Rattle.certificates.specs.Certified.{classes_for}

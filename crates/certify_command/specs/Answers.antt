@@ -1,6 +1,7 @@
 -- What `certify` says of the rounds of a plan.
-use Rattle.std.specs.Prelude.{◌≡◌, ℕ, List, Option, Ok, false}
+use Rattle.std.specs.Prelude.{◌≡◌, ℕ, List, Option, Some, Ok, false}
 use Rattle.std.specs.Io.KnownBytes.{Appends}
+use Rattle.file_access.specs.Outside.{Files}
 use Rattle.dest_classes.specs.declared.Class.{Class}
 use Rattle.certificates.specs.Updates.{rollout}
 use Rattle.certificates.specs.Certified.{IsCertified, classes_for, is_two_phase}
@@ -11,6 +12,7 @@ use Rattle.certificates.specs.declared.Plan.{Plan}
 use Rattle.check_reasons.specs.Cases.{CaseView}
 use Rattle.plan_format.specs.Plans.{plan_in}
 use Rattle.plan_text.specs.PlanText.{plan_text}
+use Rattle.command_base.specs.Names.{UpdateNames}
 use Rattle.command_base.specs.Answers.{Answer}
 use Rattle.command_base.specs.Judgements.{IsJudgement}
 use Rattle.check_base.specs.Checks.{CheckMeaning, IsNamed, check_count, task_in}
@@ -55,6 +57,14 @@ pub record IsCauseLine (m : CheckMeaning) (line : List ℕ) : Type 0 where
 -- the answer of `certify`: too many classes; the text of a certified plan with these rounds; or why none has them
 abbrev pub IsCertifyAnswer : CheckMeaning → Answer → Type 0
 IsCertifyAnswer m answer = IsJudgement (check_count m) (IsCertifiable m) (IsCertifiedText m answer.text) answer.text (IsCauseLine m) answer
+
+-- the other files are the same under the names of an update, and hold this text under a further name
+pub record HoldBeside (files others : Files) (names : UpdateNames) (plan text : List ℕ) : Type 0 where
+  pub topology : others names.topology ≡ files names.topology
+  pub old : others names.old ≡ files names.old
+  pub new : others names.new ≡ files names.new
+  pub policy : others names.policy ≡ files names.policy
+  pub plan_is : others plan ≡ Some text
 
 -- the text of a certified plan with these rounds was written
 pub record WritesCertifiedText (m : CheckMeaning) (old new : Option (List ℕ)) : Type 0 where
