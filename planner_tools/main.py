@@ -41,7 +41,7 @@ def take_options(words):
             options.is_strict = True
         elif word == "-o":
             options.output = next(given, None)
-            if options.output is None:
+            if not options.output:
                 raise ValueError("behind -o the name of a file is missing")
         else:
             rest.append(word)
@@ -53,8 +53,22 @@ def ended(number, _):
     raise SystemExit(128 + number)
 
 
+def keep_streams():
+    """Sees that a standard stream that is closed has its number all the same: writing to the output fails then, as it does where the disk is full, and what is
+    said goes nowhere. Otherwise a file that is opened next would be taken for that stream."""
+    import os
+    for number, name, flags in ((1, "stdout", os.O_RDONLY), (2, "stderr", os.O_WRONLY)):
+        if getattr(sys, name) is None:
+            found = os.open(os.devnull, flags)
+            if found != number:
+                os.dup2(found, number)
+                os.close(found)
+            setattr(sys, name, open(number, "w", encoding="utf-8", closefd=False))
+
+
 def main(words):
     """Does what the words say, and returns the exit status."""
+    keep_streams()
     status = answer(words)
     try:
         sys.stdout.flush()
@@ -121,13 +135,15 @@ def run_module(words, options):
             return command(words[1:])
         except OSError as fault:
             return unwritten(fault)
-    from planner_tools.proved import Output
+    from planner_tools.proved import Output, Stop
     output, before = Output(options.output), sys.stdout
     try:
         with open(output.handle, "w", encoding="utf-8", closefd=False) as sys.stdout:
             status = command(words[1:])
         output.end(status)
         return status
+    except OSError as fault:
+        raise Stop(f"{options.output}: the output couldn't all be written: {fault.strerror}", UNWRITTEN) from fault
     finally:
         sys.stdout = before
         output.drop()

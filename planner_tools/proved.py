@@ -216,7 +216,7 @@ class Output:
         if path is not None and (not os.path.exists(path) or os.path.isfile(path)):
             self.open_beside()
         elif path is not None:
-            self.handle = os.open(path, os.O_WRONLY)
+            self.open_there()
 
     def open_beside(self):
         """Opens a new file beside the one that is to be written."""
@@ -224,6 +224,13 @@ class Output:
             self.handle, self.name = tempfile.mkstemp(prefix=f".{os.path.basename(self.path)}.", dir=os.path.dirname(self.path) or ".")
         except OSError as fault:
             raise Stop(f"{self.path}: {fault.strerror}", UNWRITTEN) from fault
+
+    def open_there(self):
+        """Opens what is no ordinary file, as /dev/stdout. A folder is none that can be written."""
+        try:
+            self.handle = os.open(self.path, os.O_WRONLY)
+        except OSError as fault:
+            raise Stop(f"{self.path}: {fault.strerror}", UNWRITTEN, ["-o takes the name of a file"] if os.path.isdir(self.path) else []) from fault
 
     def write(self, piece):
         while piece:
@@ -237,8 +244,8 @@ class Output:
             mask = os.umask(0)
             os.umask(mask)
             os.fchmod(self.handle, 0o666 & ~mask)
-            os.close(self.handle)
             os.replace(self.name, self.path)
+            os.close(self.handle)
         else:
             with open(self.name, "rb") as file:
                 text = file.read()
