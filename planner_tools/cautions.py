@@ -23,11 +23,28 @@ INNER = {"topology": {"switches": "switch"}, "configuration": {"rules": "rule"},
 TOLD = 6
 
 
-class Caution:
-    """What is told before an answer. A note is no warning: nothing has to be changed."""
+# A member of this name, or one whose name begins so, is a remark of whoever wrote the file: nothing is said of it.
+REMARK, REMARK_BEGINS = "comment", "_"
 
-    def __init__(self, what, more=(), is_warning=True):
-        self.what, self.more, self.is_warning = what, more, is_warning
+
+class Caution:
+    """What is told before an answer. A note is no warning: nothing has to be changed. Of several of one kind the first one is told, with the places of the
+    others; one without a kind stands alone."""
+
+    def __init__(self, what, more=(), is_warning=True, kind=None, place=""):
+        self.what, self.more, self.is_warning, self.kind, self.place = what, list(more), is_warning, kind, place
+
+
+def grouped(found):
+    """The first caution of each kind, with how many more there are like it, and where."""
+    first, others = {}, {}
+    for one in found:
+        if first.setdefault(one.kind or one, one) is not one:
+            others.setdefault(one.kind, []).append(one.place)
+    for kind, places in others.items():
+        told = ", ".join(places[:TOLD]) + (f" and {len(places) - TOLD} more" if len(places) > TOLD else "")
+        first[kind].more.insert(0, f"{len(places)} more like it: {told}")
+    return list(first.values())
 
 
 def cautions(run):
@@ -39,7 +56,7 @@ def cautions(run):
     config = JUDGING.get(run.command.name)
     if config and all(size_of(run.files[word]) <= LONGEST_OTHER for word in ("TOPO", config, "POLICY") if word in run.files):
         found += coverage_cautions(run, config)
-    return found
+    return grouped(found)
 
 
 def size_of(file):
@@ -52,7 +69,7 @@ def size_of(file):
 # ---- members that count for nothing
 
 def member_cautions(kind, file):
-    """Warnings about members that no format knows, and members that stand twice."""
+    """Warnings about members that no format knows, and members that stand twice. Remarks are passed over."""
     try:
         with open(file.real, "rb") as source:
             data = source.read()
@@ -81,7 +98,7 @@ def has_odd_member(text, known):
     odd = []
 
     def look(pairs):
-        names = [name for name, _ in pairs]
+        names = [name for name, _ in pairs if not is_remark(name)]
         if len(set(names)) < len(names) or not known.issuperset(names):
             odd.append(names)
         return dict(pairs)
@@ -99,18 +116,24 @@ def objects_in(value, way):
             yield from objects_in(item, (*way, number))
 
 
+def is_remark(name):
+    return name == REMARK or name.startswith(REMARK_BEGINS)
+
+
 def look_at_members(text, item, way, known, found):
     seen = {}
     for name, at, value in item.held if item.kind == "object" else []:
-        path = member_path((*way, name))
+        if is_remark(name):
+            continue
+        path, kind = member_path((*way, name)), (text.path, way[:1], name)
         if name in seen:
             found.append(Caution(f"{text.where(at)}: {path} stands twice, and only the last one, {text.shown(value)}, counts",
-                                 [f"the first one: line {text.place(seen[name])[0]}, column {text.place(seen[name])[1]}"]))
+                                 [f"the first one: line {text.place(seen[name])[0]}, column {text.place(seen[name])[1]}"], kind=("twice", *kind), place=path))
         elif name not in known:
             here = [one for one, _, _ in item.held]
             guess = nearest(name, [one for one in known if one not in here]) or nearest(name, known)
             found.append(Caution(f"{text.where(at)}: {path} counts for nothing: no member has this name{f'; did you mean `{guess}`?' if guess else ''}",
-                                 [f"the members are {', '.join(f'`{one}`' for one in known)}"]))
+                                 [f"the members are {', '.join(f'`{one}`' for one in known)}"], kind=("unknown", *kind), place=path))
         seen.setdefault(name, at)
 
 
@@ -165,7 +188,8 @@ def is_undeclared(demand, network):
 def undeclared(number, demand, where, network):
     vlan = demand["vlan"]
     return Caution(f"{where}: demands[{number}] speaks of no packet: {'`untagged`' if vlan == 'untagged' else f'the VLAN {vlan}'} isn't declared"
-                   f"{did_you_mean(vlan, network.vlans)}", [f"the VLANs of {network.json.path} are {', '.join(map(str, network.vlans)) or 'none'}"])
+                   f"{did_you_mean(vlan, network.vlans)}", [f"the VLANs of {network.json.path} are {', '.join(map(str, network.vlans)) or 'none'}"],
+                   kind=("undeclared", vlan), place=f"demands[{number}]")
 
 
 def demand_cautions(policy, network, lines, shown):
@@ -177,10 +201,11 @@ def demand_cautions(policy, network, lines, shown):
         if not covered and is_undeclared(demand, network):
             found.append(undeclared(number, demand, where, network))
         elif not covered:
-            found.append(Caution(f"{where}: demands[{number}] speaks of no packet: it covers no class of packets", ["the network has no host port or no VLAN"]))
+            found.append(Caution(f"{where}: demands[{number}] speaks of no packet: it covers no class of packets", ["the network has no host port or no VLAN"],
+                                 kind="no class", place=f"demands[{number}]"))
         elif not demand.get("deliver") and all(one.end.startswith("dropped ") for one in covered):
             found.append(Caution(f"{where}: demands[{number}] asks for nothing: in {shown} every packet to {demand['dst']} that it speaks of is dropped",
-                                 ["a packet that is dropped meets every demand without `deliver`"]))
+                                 ["a packet that is dropped meets every demand without `deliver`"], kind="all dropped", place=f"demands[{number}]"))
     return found
 
 
@@ -218,10 +243,11 @@ def unserved_cautions(lines, network, shown):
         if mine and host not in ends and all(one.is_dropped_at_once() for one in mine):
             dead.add(host)
             where = network.json.where(network.json.at(("hosts", number)).start)
-            found.append(Caution(f"{where}: no rule of {shown} serves the host port {host}: every packet that enters there is dropped at once, and none leaves there"))
+            found.append(Caution(f"{where}: no rule of {shown} serves the host port {host}: every packet that enters there is dropped at once, and none leaves there",
+                                 kind="unserved host", place=host))
     for number, vlan in enumerate(network.vlans):
         mine = [one for one in lines if one.vlan == str(vlan) and one.host not in dead]
         if mine and all(one.is_dropped_at_once() for one in mine):
             where = network.json.where(network.json.at(("vlans", number)).start)
-            found.append(Caution(f"{where}: no rule of {shown} serves packets {nets.vlan_words(vlan)}: each is dropped where it enters"))
+            found.append(Caution(f"{where}: no rule of {shown} serves packets {nets.vlan_words(vlan)}: each is dropped where it enters", kind="unserved VLAN", place=str(vlan)))
     return found

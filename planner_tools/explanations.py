@@ -220,18 +220,23 @@ class Explainer:
 
         given, command = self.run.given, self.run.command
         if not given:
-            self.voice.refuse("no command is given", ["`planner --help` has the commands"])
+            self.voice.refuse("no command is given", [*all_words.wish_lines(), "`planner --help` has the commands"])
             return
         if command.name not in all_words.BY_NAME:
-            names = [*all_words.BY_NAME, "--help", "--version"]
-            self.voice.refuse(f"no command is named `{given[0]}`{did_you_mean(given[0], names)}", ["`planner --help` has the commands"])
+            if is_option(given[0]):
+                self.voice.refuse(option_lines(given)[0], ["`planner --help` has the options"])
+                return
+            self.voice.refuse(f"no command is named `{given[0]}`{did_you_mean(given[0], all_words.BY_NAME)}", ["`planner --help` has the commands"])
             return
         wanted, least = command.words()
         usage = f"planner {command.name} {command.usage}"
         behind = self.run.behind
         have = len(behind)
-        if have < least:
-            self.voice.refuse(f"{', '.join(wanted[have:least])} {'is' if least - have == 1 else 'are'} missing", [usage])
+        if have < least and wanted[0] == "TOPO" and behind and self.run.folder is None and not os.path.exists(behind[0]) and behind[0] != "-" and not is_option(behind[0]):
+            self.voice.refuse(f"{behind[0]}: No such file or directory{like(behind[0])}",
+                              [f"a folder in place of TOPO stands for the names that are left out: {', '.join(wanted[have:least])} {'is' if least - have == 1 else 'are'} missing", usage])
+        elif have < least:
+            self.voice.refuse(f"{', '.join(wanted[have:least])} {'is' if least - have == 1 else 'are'} missing", [usage, *option_lines(given)])
         elif have > len(wanted):
             self.voice.refuse(f"{counted(have, 'word')} stand behind `{command.name}`, and it takes {counted(len(wanted), 'word')}", [usage, *option_lines(given)])
         else:
@@ -339,9 +344,6 @@ class Explainer:
                 with open(found.real, "rb") as file:
                     file.read(1)
             except OSError as fault:
-                if found.shown.startswith("--"):
-                    self.voice.refuse(option_lines([found.shown])[0], ["`planner --help` has the options"])
-                    return
                 more = [f"the folder {found.folder} stands for the names that are left out, and has to have this file"] if found.folder else []
                 self.voice.refuse(f"{found.shown}: {fault.strerror}{like(found.real, bool(found.folder)) if fault.errno == 2 else ''}", more)
                 return
@@ -421,5 +423,9 @@ def spelling(word, text):
 
 def option_lines(given):
     """Words about options that the planner doesn't have."""
-    options = [one for one in given if one.startswith("--")]
-    return [f"there is no option {one}{did_you_mean(one, ['--help', '--version', '--quiet', '--strict'])}" for one in options]
+    return [f"there is no option {one}{did_you_mean(one, ['--help', '--version', '--quiet', '--strict'])}" for one in given if is_option(one)]
+
+
+def is_option(word):
+    """Whether a word is written like an option, and not like a number or a name."""
+    return re.match("--?[A-Za-z]", word) is not None

@@ -86,7 +86,17 @@ def unwritten(fault):
     return UNWRITTEN
 
 
+def spelled_out(words):
+    """The words, where `help`, -h and -V stand for what they mean elsewhere."""
+    if words[:1] == ["help"]:
+        return [*words[1:2], "--help"]
+    if words[:1] in (["-h"], ["-V"]):
+        return ["--help" if words[0] == "-h" else "--version", *words[1:]]
+    return ["--help" if word == "-h" and words[0] not in MODULES else word for word in words]
+
+
 def answer(words):
+    words = spelled_out(words)
     if words[:1] == ["--version"]:
         from planner_tools.version import VERSION
         print(f"planner {VERSION}")
@@ -114,14 +124,33 @@ def answer(words):
         return INTERRUPTED
 
 
+def is_option(word):
+    """Whether a word is none of a file: the name `-` is that of the standard input."""
+    return word.startswith("-") and word != "-"
+
+
+def missing_folder(words):
+    """Says of a command of the front end that its one name is none of a file or a folder that is there."""
+    import os
+    from planner_tools.files import like
+    from planner_tools.proved import Stop
+    if not is_option(words[1]) and not os.path.exists(words[1]) and (len(words) == 2 or is_option(words[2])):
+        raise Stop(f"{words[1]}: No such file or directory{like(words[1])}", WRONG_WORDS, [f"a folder stands for the files that are left out: planner {words[0]} FOLDER"])
+
+
 def unfolded(words):
     """The words of a command of the front end, where a folder stands for the names of files that are left out before its options."""
     import os
-    if words[0] not in UNFOLDING or len(words) < 2 or not os.path.isdir(words[1]):
+    if words[0] not in UNFOLDING or len(words) < 2:
+        return words
+    if words[0] == "page" and words[1] == "-" and (len(words) == 2 or is_option(words[2])):
+        words = ["page", ".", *words[1:]]
+    if not os.path.isdir(words[1]):
+        missing_folder(words)
         return words
     from planner_tools.proved import Run
     from planner_tools.words import BY_NAME
-    end = next((at for at, word in enumerate(words) if word.startswith("-")), len(words))
+    end = next((at for at, word in enumerate(words) if is_option(word)), len(words))
     wanted = [word for word in BY_NAME[words[0]].usage.partition(" -")[0].split() if not word.startswith("[")]
     return [words[0], *(getattr(one, "shown", one) for one in Run.unfolded(words[1], wanted, len(wanted), words[2:end])), *words[end:]]
 

@@ -12,6 +12,8 @@ from planner_tools.voice import Voice
 KEPT = 4 << 20
 WRONG_WORDS, BAD_FILE, UNREAD, UNWRITTEN = 2, 3, 6, 7
 STANDARD_OUTPUT = 1
+INPUT_NAME = "the standard input"
+TWICE = "`-` stands twice among the words, and the standard input can be read only once"
 
 
 class Refusals:
@@ -22,7 +24,7 @@ class Refusals:
 
 def say_why(*given, good=(0,)):
     """Runs the program, and says what its answer means where its status is no good one. Returns its status and its text."""
-    run = Run(list(map(str, given)), Refusals)
+    run = Run([one if isinstance(one, Given) else str(one) for one in given], Refusals)
     run.capture()
     if run.status not in good:
         run.safely(run.explain)
@@ -44,6 +46,44 @@ class Given:
         self.real, self.shown, self.folder, self.typed = real, shown, folder, typed or shown
 
 
+def standard_input():
+    """All of the standard input, in a file that goes when it is closed."""
+    import shutil
+    if sys.stdin is None:
+        raise Stop("the standard input is closed", UNREAD)
+    spooled = tempfile.NamedTemporaryFile(prefix="planner-")
+    shutil.copyfileobj(sys.stdin.buffer, spooled)
+    spooled.flush()
+    return spooled
+
+
+class Names:
+    """The files that some words name, where one of them may be `-`, the standard input. Each is a path, which knows the name that is told."""
+
+    def __init__(self):
+        self.spooled = None
+
+    def real(self, word):
+        """The path of a file."""
+        if word != "-":
+            return word
+        if self.spooled is not None:
+            raise Stop(TWICE, WRONG_WORDS)
+        self.spooled = standard_input()
+        return self.spooled.name
+
+    def is_input(self, path):
+        return self.spooled is not None and path == self.spooled.name
+
+    def shown(self, path):
+        """The name of a file, as it is told."""
+        return INPUT_NAME if self.is_input(path) else path
+
+    def given(self, path):
+        """The file for a run of the program."""
+        return Given(path, INPUT_NAME) if self.is_input(path) else path
+
+
 def joined(folder, name):
     return name if folder == "." else os.path.join(folder, name)
 
@@ -63,7 +103,7 @@ class Run:
         self.command = words.BY_NAME.get(given[0]) if given else None
         if self.command is None or not self.command.is_proved:
             self.command = words.Command(given[0] if given else "", "", "", "")
-        self.program, self.files, self.spooled = None, {}, None
+        self.program, self.files, self.spooled, self.folder = None, {}, None, None
         self.status, self.text, self.fault, self.target = None, "", None, options.output or "the standard output"
         self.passed, self.notes, self.behind = list(given), [], list(given[1:])
 
@@ -79,7 +119,8 @@ class Run:
             return
         wanted, least = self.command.words()
         rest = self.given[1:]
-        folder = rest[0] if rest and wanted and wanted[0] == "TOPO" and os.path.isdir(rest[0]) else None
+        folder = rest[0] if rest and wanted and wanted[0] == "TOPO" and isinstance(rest[0], str) and os.path.isdir(rest[0]) else None
+        self.folder = folder
         if folder is not None:
             rest = self.unfolded(folder, wanted, least, rest[1:])
         self.behind = [getattr(text, "typed", text) for text in rest]
@@ -104,24 +145,27 @@ class Run:
                 rest.append(Given(path, path, folder))
         return rest
 
+    def refuse_options(self):
+        """Refuses an option that isn't there, which would be taken for the name of a file."""
+        from planner_tools.explanations import is_option, option_lines
+        odd = [one.shown for one in self.files.values() if is_option(one.shown) and not os.path.exists(one.shown)]
+        if odd:
+            raise Stop(option_lines(odd)[0], WRONG_WORDS, ["`planner --help` has the options"])
+
     def file(self, text):
         if text != "-":
             return Given(text, text)
         if self.spooled is not None:
-            raise Stop("`-` stands twice among the words, and the standard input can be read only once", WRONG_WORDS)
-        if sys.stdin is None:
-            raise Stop("the standard input is closed", UNREAD)
-        import shutil
-        self.spooled = tempfile.NamedTemporaryFile(prefix="planner-")
-        shutil.copyfileobj(sys.stdin.buffer, self.spooled)
-        self.spooled.flush()
-        return Given(self.spooled.name, "the standard input")
+            raise Stop(TWICE, WRONG_WORDS)
+        self.spooled = standard_input()
+        return Given(self.spooled.name, INPUT_NAME)
 
     # ---- the run
 
     def run(self):
         """Runs the program, says what is to be said, and returns the exit status."""
         self.resolve()
+        self.refuse_options()
         self.program = program.built()
         if self.files and (not self.options.is_quiet or self.options.is_strict) and self.has_warnings() and self.options.is_strict:
             self.voice.refuse("nothing is written, as there are warnings and --strict is given")

@@ -182,6 +182,13 @@ WISHES = [
     ("the rest", ["upgrade", "sample", "install"]),
 ]
 BY_NAME = {command.name: command for command in COMMANDS}
+
+
+def wish_lines():
+    """What there is for whom, in short."""
+    return [f"{', '.join(names)}: {wish}" for wish, names in WISHES]
+
+
 # The options of the commands that speak with switches, and what each says.
 CONNECTIONS = [("--switches FILE", "which switches there are: a line for each, its name, its datapath id, and where it listens"),
                ("--listen HOST:PORT", "where the switches connect to that don't listen")]
@@ -208,8 +215,8 @@ FRONT_END = (
     "proved program are exactly the program's. What the front end says beside it goes to the error stream. In a checkout of the repository it proves and "
     "builds the program first, where it is missing or older than a source, and says how long that takes.")
 OPTIONS = [
-    ("--help", "Prints the commands in short; behind a command, more of it."),
-    ("--version", "Prints the version."),
+    ("--help", "Prints the commands in short; behind a command, more of it. So do -h, `help` and `help COMMAND`."),
+    ("--version", "Prints the version. So does -V."),
     ("-o FILE", "Writes the answer into FILE, which is there only where the exit status is 0. Another answer goes to the standard output."),
     ("--strict", "Makes warnings exit status 3, with nothing written."),
     ("--quiet", "Says nothing on the error stream but refusals."),
@@ -245,7 +252,7 @@ def help_text():
             lines += [f"  {command.name} {command.usage}"]
             lines += textwrap.wrap(command.answer, 112, initial_indent="      ", subsequent_indent="      ")
     lines += ["", "Options:"]
-    lines += [line for flag, text in OPTIONS for line in textwrap.wrap(f"{flag:<12}{text}", 112, initial_indent="  ", subsequent_indent=" " * 14)]
+    lines += [line for flag, text in OPTIONS for line in textwrap.wrap(f"{flag:<12}{text.replace('`', '')}", 112, initial_indent="  ", subsequent_indent=" " * 14)]
     lines += ["", *textwrap.wrap(SHORT_HANDS.replace("`", ""), 112, break_on_hyphens=False), "", "Exit status:"]
     lines += [f"  {number:<4} {meaning}" for number, meaning in STATUSES]
     return "\n".join(lines) + "\n"

@@ -100,5 +100,117 @@ class Output(Case):
                 self.assertEqual((status, text, ""), self.shell(f"{line} 2>&-"))
 
 
+class Words(Case):
+    """Names of files, folders and options."""
+
+    def test_the_standard_input_is_shown(self):
+        plan = self.read("plan.json")
+        for words in (["show", "-"], ["show", ".", "-"], ["show", "topology.json", "old.json", "-"]):
+            with self.subTest(words=words):
+                status, text, _ = self.run_planner(*words, input=plan)
+                self.assertEqual((0, self.run_planner("show", ".")[1].replace("plan.json", "the standard input", 1)), (status, text))
+        self.assertEqual((3, "", "planner: the standard input: a policy isn't shown\n    planner show TOPO [OLD] [PLAN] FILE\n"), self.run_planner("show", ".", "-", input=self.read("policy.json")))
+        self.assertEqual((3, "", "planner: the standard input: it is no JSON that can be shown: the file ends before the object that begins in line 1, column 1 is closed: it is cut off, "
+                                 "or a bracket is missing\n"), self.run_planner("show", ".", "-", input=plan.rstrip()[:-1]))
+
+    def test_the_standard_input_as_page(self):
+        plan = self.read("plan.json")
+        whole = self.run_planner("page", ".", "--layout", "own")[1]
+        for words in (["page", "-"], ["page", ".", "-"], ["page", *UPDATE, "-"]):
+            with self.subTest(words=words):
+                status, text, said = self.run_planner(*words, "--layout", "own", input=plan)
+                self.assertEqual((0, "", True), (status, said, "<title>the standard input: what the plan does</title>" in text))
+                self.assertEqual(len(whole.splitlines()), len(text.splitlines()))
+        status, text, _ = self.run_planner("page", "topology.json", "-", "--layout", "own", input=self.read("old.json"))
+        self.assertEqual((0, True), (status, "<title>the standard input: where packets go</title>" in text))
+        status, text, said = self.run_planner("page", ".", "-", input=plan[:-9])
+        self.assertEqual((3, "", True), (status, text, "planner: the standard input, line " in said), said)
+
+    def test_the_standard_input_twice(self):
+        for words in (["show", ".", "-", "-"], ["page", ".", "-", "--schedule", "-"]):
+            with self.subTest(words=words):
+                status, text, said = self.run_planner(*words, input=self.read("plan.json"))
+                self.assertEqual((2, "", "planner: `-` stands twice among the words, and the standard input can be read only once\n"), (status, text, said))
+
+    def test_a_misspelt_folder_is_said_as_such(self):
+        for words in ("plan", "config", "page", "show", "apply"):
+            with self.subTest(words):
+                status, _, said = self.run_planner(words, "nett", folder=self.room.name)
+                self.assertEqual((2, "planner: nett: No such file or directory; did you mean net?"), (status, said.splitlines()[0]))
+
+    def test_an_unknown_option_is_wrong_words_wherever_it_stands(self):
+        for words in ("--strct plan .", "plan --strct .", "plan . --strct", "plan topology.json old.json --strct", "plan topology.json old.json new.json policy.json --strct",
+                      "config topology.json --strct", "show . --strct", "page . --strct", "collect . --switches switches --strct", "update . --switches switches --strct"):
+            with self.subTest(words):
+                status, _, said = self.run_planner(*words.split())
+                self.assertEqual(2, status, said)
+                self.assertIn("--strct", said)
+
+    def test_a_file_with_the_name_of_an_option(self):
+        os.rename(self.path("policy.json"), self.path("--policy"))
+        self.assertEqual(0, self.run_planner("plan", "topology.json", "old.json", "new.json", "--policy")[0])
+
+    def test_help_in_its_usual_forms(self):
+        whole, version = self.run_planner("--help"), self.run_planner("--version")
+        for words in (["-h"], ["help"]):
+            self.assertEqual(whole, self.run_planner(*words))
+        self.assertEqual(version, self.run_planner("-V"))
+        for command in ("plan", "apply", "show", "to-ofctl"):
+            self.assertEqual(0, self.run_planner(command, "--help")[0])
+            for words in ([command, "-h"], ["help", command]):
+                self.assertEqual(self.run_planner(command, "--help"), self.run_planner(*words))
+        self.assertEqual((2, "", "planner: no command is named `pln`; did you mean `plan`?\n    `planner --help` has the commands\n"), self.run_planner("help", "pln"))
+
+    def test_the_name_alone_says_what_there_is(self):
+        status, text, said = self.run_planner()
+        self.assertEqual((2, "unknown command or wrong words\n"), (status, text))
+        for name in ("plan", "update", "show", "install"):
+            self.assertRegex(said, rf"\b{name}\b")
+
+
+class Warnings(Case):
+    """What is warned of."""
+
+    def test_many_members_that_count_for_nothing_are_one_warning(self):
+        def mark(value):
+            for one in value["rules"]:
+                one["coment"] = "as ordered"
+        self.edit("old.json", mark)
+        status, _, said = self.run_planner("config", "topology.json", "old.json")
+        self.assertEqual((0, "planner: warning: old.json, line 1, column 78: rules[0].coment counts for nothing: no member has this name\n"
+                             "    3 more like it: rules[1].coment, rules[2].coment, rules[3].coment\n"
+                             "    the members are `switch`, `priority`, `in_port`, `vlan`, `dst`, `out`\n"), (status, said))
+
+    def test_a_thousand_rules_with_such_a_member(self):
+        self.write("many.json", json.dumps({"rules": [{"switch": "s1", "priority": 1 + number, "dst": "10.0.0.0/24", "out": 2, "note": "x", "remark": "y"} for number in range(1000)]}))
+        self.edit("topology.json", lambda value: value["switches"][0].update(capacity=1000))
+        lines = self.run_planner("config", "topology.json", "many.json")[2].splitlines()
+        self.assertEqual(2, sum("counts for nothing" in line for line in lines))
+        self.assertIn("    999 more like it: rules[1].note, rules[2].note, rules[3].note, rules[4].note, rules[5].note, rules[6].note and 993 more", lines)
+        self.assertLess(len(lines), 12)
+
+    def test_many_demands_that_speak_of_no_packet_are_one_warning(self):
+        def add(value):
+            value["demands"] += [{"dst": f"10.{number}.0.0/16", "vlan": 7} for number in range(9)]
+        self.edit("policy.json", add)
+        said = self.run_planner("config", "topology.json", "old.json", "policy.json")[2]
+        self.assertEqual(1, said.count("speaks of no packet"))
+        self.assertIn("    8 more like it: demands[4], demands[5], demands[6], demands[7], demands[8], demands[9] and 2 more\n", said)
+
+    def test_remarks_are_no_warnings(self):
+        def mark(value):
+            value["_made_by"] = "hand"
+            for one in next(iter(one for one in value.values() if isinstance(one, list))):
+                one["comment"] = one["_ticket"] = "as ordered"
+        for name in UPDATE:
+            self.edit(name, mark)
+        status, text, said = self.run_planner("plan", ".", "--strict", "--quiet")
+        self.assertEqual((0, self.read("plan.json").strip(), ""), (status, text.strip(), said))
+        self.edit("old.json", lambda value: value.update(note="x"))
+        status, text, said = self.run_planner("plan", ".", "--strict", "--quiet")
+        self.assertEqual((3, ""), (status, text))
+        self.assertIn("note counts for nothing", said)
+
+
 if __name__ == "__main__":
     unittest.main()
