@@ -12,6 +12,12 @@ _planner() {
         case ${COMP_WORDS[1]} in
             collect) options="--switches --listen --patience $options" ;;
             apply) options="--switches --listen --wait --ask --patience --resume --back --repair --take-over --no-mark $options" ;;
+            show) options="--json --wait $options" ;;
+            page) options="--schedule --planner --layout $options" ;;
+            from-ofctl) options="--drop-unsayable $options" ;;
+            from-mininet) options="--hosts --vlans --tags --capacity $options" ;;
+            from-graphml) options="--hosts --external --vlans --tags --capacity --names $options" ;;
+            to-ofctl) options="--switches $options" ;;
             update) options="--switches --listen --wait --ask --patience --yes --dry-run $options" ;;
         esac
         mapfile -t COMPREPLY < <(compgen -W "$options" -- "${COMP_WORDS[COMP_CWORD]}")

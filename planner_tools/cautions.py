@@ -5,6 +5,7 @@ import os
 import re
 
 from planner_tools import network as nets
+from planner_tools import program
 from planner_tools.faults import MEMBERS, OF_OTHERS
 from planner_tools.files import NotJson, did_you_mean, member_path, nearest, read_json
 
@@ -225,8 +226,8 @@ def paths_words(run, config):
     """The command that lists the paths of all classes, as it can be typed."""
     found = [run.files[word] for word in ("TOPO", config, "POLICY")]
     if all(one.folder for one in found):
-        return f"planner paths {found[0].folder} {os.path.basename(found[1].shown)}"
-    return f"planner paths {' '.join(one.shown for one in found)}"
+        return f"{program.typed()} paths {found[0].folder} {os.path.basename(found[1].shown)}"
+    return f"{program.typed()} paths {' '.join(one.shown for one in found)}"
 
 
 def listed(lines):

@@ -148,8 +148,11 @@ def unfolded(words):
     if not os.path.isdir(words[1]):
         missing_folder(words)
         return words
-    from planner_tools.proved import Run
+    from planner_tools.proved import Run, doubtful
+    from planner_tools.voice import Voice
     from planner_tools.words import BY_NAME
+    for what, more in doubtful(words[1], words[2:]):
+        Voice().warn(what, more)
     end = next((at for at, word in enumerate(words) if is_option(word)), len(words))
     wanted = [word for word in BY_NAME[words[0]].usage.partition(" -")[0].split() if not word.startswith("[")]
     return [words[0], *(getattr(one, "shown", one) for one in Run.unfolded(words[1], wanted, len(wanted), words[2:end])), *words[end:]]

@@ -4,6 +4,7 @@ The program is the one that the environment variable PLANNER names; otherwise in
 installed beside this package.
 """
 import os
+import shutil
 import subprocess
 import sys
 
@@ -20,6 +21,16 @@ NO_PROGRAM = 125
 
 class NoProgram(Exception):
     """There is no program to run, or it can't be run: why, and what to do."""
+
+
+def typed():
+    """How this front end is called from here: by its name where that is on the path, otherwise by its path."""
+    found = shutil.which("planner")
+    if found and os.path.realpath(found) == FRONT_END:
+        return "planner"
+    path = os.path.relpath(FRONT_END)
+    path = min(path, FRONT_END, key=len)
+    return path if os.sep in path else os.path.join(".", path)
 
 
 def is_checkout():

@@ -88,10 +88,37 @@ def joined(folder, name):
     return name if folder == "." else os.path.join(folder, name)
 
 
+def beside(folder, name):
+    """The path of a file of a folder; where it is an update's, of the folder above it, which has the files that the update began with. None where there is none."""
+    above = os.path.normpath(os.path.join(folder, os.pardir))
+    is_update = os.path.isfile(os.path.join(folder, "plan.json")) and not os.path.isfile(os.path.join(folder, "topology.json"))
+    return next((path for path in (joined(folder, name), *([joined(above, name)] if is_update else [])) if os.path.isfile(path)), None)
+
+
 def inside(folder, name):
     """A word behind a folder: where it names no file, but one of the folder, it is that one."""
     path = joined(folder, name)
     return Given(path, path, typed=name) if not os.path.exists(name) and os.path.isfile(path) else name
+
+
+def doubtful(folder, given):
+    """Of words behind a folder those that name a file of the working folder, though the folder has another file of that name: what is said of each."""
+    found = []
+    for word in given:
+        path = joined(folder, word) if isinstance(word, str) else ""
+        if os.path.basename(str(word)) == word and os.path.isfile(word) and os.path.isfile(path) and not is_same(word, path):
+            found.append((f"{word} is the file of the working folder, and {folder} has another one of this name",
+                          [f"`{path}` names that one, and `{os.path.join('.', word)}` the one that is taken without this warning"]))
+    return found
+
+
+def is_same(one, other):
+    """Whether two files hold the same."""
+    import filecmp
+    try:
+        return filecmp.cmp(one, other, shallow=False)
+    except OSError:
+        return False
 
 
 class Run:
@@ -137,11 +164,12 @@ class Run:
         behind = [inside(folder, word) for word in behind]
         names = next((at for at, word in enumerate(wanted) if word not in words.FILES), len(wanted))
         count = min(max(1, least - len(behind)), names)
-        taken = [Given(path, path, folder) for path in (joined(folder, words.IN_FOLDER.get(word, "")) for word in wanted[:count])]
+        names = [words.IN_FOLDER.get(word, "") for word in wanted]
+        taken = [Given(path, path, folder) for path in (beside(folder, name) or joined(folder, name) for name in names[:count])]
         rest = [*taken, *behind]
-        for word in wanted[len(rest):]:
-            path = joined(folder, words.IN_FOLDER.get(word, ""))
-            if os.path.isfile(path):
+        for name in names[len(rest):]:
+            path = beside(folder, name) if name else None
+            if path is not None:
                 rest.append(Given(path, path, folder))
         return rest
 
@@ -177,8 +205,9 @@ class Run:
         return self.status if self.status >= 0 else 128 - self.status
 
     def has_warnings(self):
-        from planner_tools.cautions import cautions
-        found = self.safely(lambda: cautions(self)) or []
+        from planner_tools.cautions import Caution, cautions
+        found = [Caution(what, more) for what, more in doubtful(self.folder, self.given[2:])] if self.folder else []
+        found += self.safely(lambda: cautions(self)) or []
         voice = Voice() if self.options.is_strict else self.voice
         warnings = [one for one in found if one.is_warning]
         self.notes = [one for one in found if not one.is_warning]

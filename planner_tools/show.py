@@ -11,7 +11,8 @@ import sys
 from planner_tools import network as nets
 from planner_tools import story
 from planner_tools.files import NotJson, counted, like, read_json
-from planner_tools.proved import Names, Stop, joined, say_why
+from planner_tools.proved import Names, Stop, beside, doubtful, joined, say_why
+from planner_tools.voice import Voice
 
 WAIT = 2.0
 BAD_FILE = 3
@@ -66,7 +67,9 @@ class Shown:
             if len(names) < 2:
                 raise Stop("the file that is to be shown is missing", 2, ["planner show TOPO [OLD] [PLAN] FILE"])
             return names
-        inside = {kind: joined(folder, name) for kind, name in (("topology", "topology.json"), ("configuration", "old.json"), ("plan", "plan.json"))}
+        inside = {kind: beside(folder, name) or joined(folder, name) for kind, name in (("topology", "topology.json"), ("configuration", "old.json"), ("plan", "plan.json"))}
+        for what, more in doubtful(folder, names[1:]):
+            Voice().warn(what, more)
         given = [at_folder(folder, name) for name in names[1:]] or [inside["plan"]]
         before = {"plan": ["configuration"], "schedule": ["configuration", "plan"]}.get(self.kind_of(given[-1]), [])
         have = {self.kind_of(name) for name in given}

@@ -200,6 +200,17 @@ OWN_OPTIONS = {
               ("--back", "goes on with it backwards: turns the round that runs, and undoes those that are settled, one by one, up to OLD"),
               ("--repair", "puts right what a switch doesn't have as it must have it, in place of stopping"),
               ("--take-over", "takes away the marks of other updates"), ("--no-mark", "puts no mark on the switches, and doesn't mind those of others")],
+    "show": [("--json", "writes it for machines"), ("--wait SECONDS", "the wait before each round, for the time that a plan takes (2 s)")],
+    "page": [("--schedule FILE", "a run of the plan, to be played: of `simulate` or `explain`, or the record of an update"), ("--planner PATH", "the program"),
+             ("--layout graphviz|own", "own: Graphviz isn't used, even where it is there")],
+    "from-ofctl": [("--drop-unsayable", "leaves out entries for other packets than IPv4, and entries of priority 0 that do what a miss does")],
+    "from-mininet": [("--hosts NAME,..", "nodes that are hosts, where the text doesn't show it"), ("--vlans VLAN,..", "the VLANs with which packets of hosts come (untagged)"),
+                     ("--tags FIRST-LAST", "VLAN ids that the planner may use as tags (none)"), ("--capacity N", "how many rules a switch can hold (8192)")],
+    "from-graphml": [("--hosts NAME,..", "the switches that have a host port, by name or id of the node; `all`"),
+                     ("--external switches|hosts", "hosts: nodes that the graph says aren't internal are hosts, and no switches"),
+                     ("--vlans VLAN,..", "the VLANs with which packets of hosts come"), ("--tags FIRST-LAST", "VLAN ids that the planner may use as tags; `none`"),
+                     ("--capacity N", "how many rules each switch can hold"), ("--names labels|ids", "what the switches are named by (labels)")],
+    "to-ofctl": [("--switches FILE", "where each switch is reached, as for `apply`; otherwise it is a bridge of its name on this machine")],
     "update": [*CONNECTIONS, *CARRYING_OUT, ("--yes", "doesn't ask before the first change"), ("--dry-run", "ends before the first change")],
 }
 # Commands of the program that are newer than some builds of it.

@@ -35,7 +35,7 @@ class ChangeList {
   // The changes at a switch, which are listed as soon as they are unfolded.
   group(at, changes, mine, isOpen) {
     const own = changes.filter((change) => mine.has(change.at)).length, isShown = this.opened.has(at) ? this.opened.get(at) : isOpen || at === this.view.chosen;
-    const head = [this.view.switchButton(at), ` ${countText(changes.length, "change")}: ${kindsText(changes)}`, own ? make("b", `, ${own} for these packets`) : "", this.view.doneText(changes)];
+    const head = [this.view.switchButton(at), ` ${countText(changes.length, "change")}: ${kindsText(changes)}`, own ? make("b", `, ${own} for these packets`) : "", this.view.doneOfGroup(changes)];
     const made = make("details", make("summary", head), { "data-switch": this.update.names[at] });
     made.fill = () => { if (made.childElementCount === 1) made.append(...this.lines(changes, mine)); };
     made.open = isShown;
@@ -53,7 +53,7 @@ class ChangeList {
   line(change, mine, isNamed) {
     const { view, update } = this, words = make("span", changeText(update, change), { class: "code go", title: "goes to the next packets of which it changes a step" });
     words.addEventListener("click", () => view.nextTouched(change));
-    return make("li", [make("span", view.doneText([change]), { class: "grey" }), ...isNamed ? [view.switchButton(change.rule.at), " "] : [], words,
+    return make("li", [make("span", view.doneText(change), { class: "grey" }), ...isNamed ? [view.switchButton(change.rule.at), " "] : [], words,
       make("span", ` (priority ${change.rule.priority})`, { class: "grey" })], { class: mine.has(change.at) ? "mine" : "" });
   }
 

@@ -210,8 +210,12 @@ class View {
       drops: new Set(steps.filter(({ one }) => one.what === "drop").map(({ place }) => place.at)), packets: this.playing ? this.player.state.packets.filter((packet) => packet.end === null) : [] });
   }
 
-  // The changes of the round that are still to be made in the run that is played.
-  pendingNow() { return this.player.state.running ? this.player.state.pending : new Set(); }
+  // The changes of the round that is shown that are still to be made in the run that is played: all of a round that hasn't begun.
+  pendingNow() {
+    const { settled, running, pending } = this.player.state;
+    if (this.position <= settled) return new Set();
+    return running && this.position === settled + 1 ? pending : new Set(this.update.changesIn(this.position).map((change) => change.at));
+  }
 
   lookAgain() {
     const around = this.near ? this.around() : null, name = around ? around.join() : "whole";
@@ -245,11 +249,13 @@ class View {
     this.list.scrollTo(top, this.update.names[this.chosen]);
   }
 
-  // Of a run that is played: which of some changes are made.
-  doneText(changes) {
+  // Of a run that is played: whether a change is made, before its words; and how many of a group are, behind its words.
+  doneText(change) { return !this.playing ? "" : this.pendingNow().has(change.at) ? "pending: " : "done: "; }
+
+  doneOfGroup(changes) {
     if (!this.playing) return "";
     const pending = changes.filter((change) => this.pendingNow().has(change.at)).length;
-    if (changes.length === 1) return pending ? "pending: " : "done: ";
+    if (changes.length === 1) return pending ? "; pending" : "; done";
     return `; ${changes.length - pending} done`;
   }
 
@@ -344,7 +350,7 @@ class View {
     const tag = this.update.kind !== "two-phase" ? "" : one.what === "go" ? ` [${tagText(this.update, this.position, one.vlan)}]` : `, ${vlanText(one.vlan)}`;
     if (one.what === "go") return `→ ${this.numberedName(to.at, evidence)}${tag}`;
     if (one.what === "leave") return `leaves at port ${one.port}${tag}`;
-    return `drops${place.from === null ? "" : ` what comes in at port ${place.port}`}`;
+    return `drops${place.from === null ? "" : ` what comes in at port ${place.port}`}${backText(one)}`;
   }
 
   stepText(step, evidence) {
@@ -465,8 +471,9 @@ class View {
     });
     player.to(Infinity);
     if (this.data.schedule.run && !player.agrees()) element("packets").before(make("p", "This page's packets go otherwise than the planner's: the planner is right.", { class: "wrong" }));
+    const wrong = this.data.verdict.accepted ? 0 : player.firstWrong();
     player.to(0);
-    this.toEvent(0);
+    this.toEvent(wrong);
   }
 
   toEvent(count) {

@@ -25,7 +25,8 @@ UPDATE, CONFIGURATION = 5, (2, 3)
 
 
 def asked_by(words):
-    parser = argparse.ArgumentParser(prog="planner page", usage="planner page [-h] TOPO OLD NEW POLICY PLAN [--schedule FILE]\n       planner page [-h] TOPO CONFIG [POLICY]",
+    parser = argparse.ArgumentParser(prog="planner page", usage="planner page [-h] TOPO OLD NEW POLICY PLAN [--schedule FILE] [--layout graphviz|own] [--planner PATH]\n"
+                                     "       planner page [-h] TOPO CONFIG [POLICY] [--layout graphviz|own] [--planner PATH]",
                                      description="Writes a page that shows what a plan does; or, without a plan, where packets go under a configuration.")
     parser.add_argument("files", metavar="FILE", nargs="+", help="the network, the rules now, the rules wanted, what packets must do, and the plan, from any source; "
                         "or the network, the rules, and what packets must do")

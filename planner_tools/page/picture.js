@@ -207,7 +207,16 @@ class Picture {
     const across = half + gap + wide / 2, down = halfHigh + gap + high / 2, near = 0.6;
     const sides = [-1, 0, 1].flatMap((right) => [-1, 0, 1].map((low) => [right * across, low * down * (right ? near : 1)])).filter(([dx, dy]) => dx || dy);
     const outward = ([dx, dy]) => ((x - this.layout.width / 2) * dx + (y - this.layout.height / 2) * dy) / Math.hypot(dx, dy);
-    return sides.sort((a, b) => outward(b) - outward(a)).map(([dx, dy]) => this.boxOf(x + dx, y + dy, wide / 2, high / 2));
+    const boxes = sides.sort((a, b) => outward(b) - outward(a)).map(([dx, dy]) => this.boxOf(x + dx, y + dy, wide / 2, high / 2));
+    return [...boxes.filter((box) => this.isInside(box)), ...boxes.filter((box) => !this.isInside(box)).map((box) => this.movedInside(box))];
+  }
+
+  isInside(box) { return box.left >= 0 && box.top >= 0 && box.right <= this.layout.width && box.low <= this.layout.height; }
+
+  // A box moved so far that none of it is cut off at the edge of the picture.
+  movedInside({ left, right, top, low }) {
+    const { width, height } = this.layout, dx = left < 0 ? -left : Math.min(0, width - right), dy = top < 0 ? -top : Math.min(0, height - low);
+    return { left: left + dx, right: right + dx, top: top + dy, low: low + dy };
   }
 
   // Fills a part of the picture, unless it is as it was.
@@ -237,8 +246,9 @@ class Picture {
   entry({ entry }) {
     if (entry === null) return "";
     const [at, port] = this.update.hosts[entry], points = [...this.line(at, port)].reverse(), [x, y] = this.hostPlaces[entry];
+    const half = 30 * this.unit, inside = Math.max(half, Math.min(this.layout.width - half, x));
     return this.path(this.between(points, 8, 15), `class="entry" stroke="${COLOURS.ink}" stroke-width="${this.width(3)}" marker-end="url(#mink)"`)
-      + this.text(x, y + (y > this.places[at][1] ? 18 : -11) * this.unit, "enter here", 10.5, `font-style="italic" fill="${COLOURS.ink}" stroke="${COLOURS.paper}" stroke-width="${this.width(3)}" paint-order="stroke"`);
+      + this.text(inside, y + (y > this.places[at][1] ? 18 : -11) * this.unit, "enter here", 10.5, `font-style="italic" fill="${COLOURS.ink}" stroke="${COLOURS.paper}" stroke-width="${this.width(3)}" paint-order="stroke"`);
   }
 
   step({ place, one }, shown) {

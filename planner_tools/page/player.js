@@ -28,6 +28,25 @@ class Player {
     this.count++;
   }
 
+  // After how many events a packet first breaks its duties; 0 where none does.
+  firstWrong() {
+    for (let count = 1; count <= this.events.length; count++) {
+      this.to(count);
+      if (this.state.packet !== null && this.isWrong(this.state.packets[this.state.packet])) return count;
+    }
+    return 0;
+  }
+
+  // Whether a packet has come to a switch again, has left without its waypoints, or was dropped though it must arrive.
+  isWrong(packet) {
+    if (packet.of < 0) return false;
+    const met = packet.stops.map((stop) => this.update.number.get(stop.slice(0, stop.lastIndexOf(":")))), duties = this.update.duties(this.update.classOf(packet.of));
+    if (new Set(met).size < met.length) return true;
+    if (packet.end === null || packet.end === "lost") return false;
+    if (packet.end.startsWith("dropped")) return duties.deliver;
+    return duties.chains.some((chain) => met.reduce((count, at) => count + (chain[count] === at ? 1 : 0), 0) < chain.length);
+  }
+
   // The position of the slider at which the run is.
   position() {
     return this.state.running ? this.state.settled + 1 : this.state.settled;

@@ -211,6 +211,96 @@ class Warnings(Case):
         self.assertEqual((3, ""), (status, text))
         self.assertIn("note counts for nothing", said)
 
+    def test_a_file_of_the_working_folder_in_place_of_one_of_the_folder_is_warned_of(self):
+        shutil.copy(self.path("old.json"), os.path.join(self.room.name, "new.json"))
+        warning = ("planner: warning: new.json is the file of the working folder, and net has another one of this name\n"
+                   "    `net/new.json` names that one, and `./new.json` the one that is taken without this warning\n")
+        status, text, said = self.run_planner("config", "net", "new.json", folder=self.room.name)
+        self.assertEqual((0, "holds: 12 classes\n", True), (status, text, said.startswith(warning)), said)
+        self.assertEqual((3, ""), self.run_planner("config", "net", "new.json", "--strict", folder=self.room.name)[:2])
+        self.assertEqual(warning, self.run_planner("show", "net", "new.json", folder=self.room.name)[2])
+        for word in ("./new.json", "net/new.json"):
+            self.assertNotIn("warning", self.run_planner("config", "net", word, folder=self.room.name)[2])
+
+
+class Answers(Case):
+    """What is said of an answer."""
+
+    def send_back(self):
+        """Lets s3 send what comes from s2 back to it."""
+        self.edit("old.json", lambda value: value["rules"][2].update(out=1))
+
+    def test_a_packet_that_is_sent_back_is_said_to_be(self):
+        self.send_back()
+        for words in (["config", "topology.json", "old.json", "policy.json"], ["paths", "topology.json", "old.json", "policy.json"], ["plan", "."]):
+            with self.subTest(words=words):
+                status, _, said = self.run_planner(*words)
+                self.assertEqual(1, status)
+                self.assertIn("      dropped by s3: its output is the port it came in by\n", said)
+                self.assertIn("    Next: let s3 send it to another port in old.json, where it is to arrive; where others that come in elsewhere need that rule, by a rule of greater", said)
+
+    def test_explain_says_that_a_packet_is_sent_back(self):
+        self.edit("new.json", lambda value: (value["rules"].clear(), value["rules"].extend(json.loads(self.read("old.json"))["rules"])))
+        self.edit("new.json", lambda value: value["rules"][1].update(out=1))
+        self.edit("policy.json", lambda value: value["demands"].pop())
+        rule = {"switch": "s2", "priority": 100, "dst": "10.0.0.0/24", "out": 1}
+        self.write("plan.json", json.dumps({"format": 2, "kind": "ordered", "rules": [rule, {**rule, "out": 2}], "rounds": [[["replace", 0]], [["replace", 1]]], "numberings": [],
+                                            "befores": [], "uses": [], "picks": []}))
+        status, _, said = self.run_planner("explain", "topology.json", "old.json", "old.json", "policy.json", "plan.json")
+        self.assertEqual(0, status, said)
+        self.assertIn("    packet 0 is dropped by s2: its output is the port it came in by, and has broken the policy\n", said)
+
+    def test_a_plan_without_evidence_leads_to_certify(self):
+        self.edit("plan.json", lambda value: value.update(numberings=[], befores=[], uses=[], picks=[]))
+        status, text, said = self.run_planner("check", ".")
+        self.assertEqual((1, "refused: 6 NoNumbering round 1 at s1:1 untagged 0.0.0.0\n"), (status, text))
+        self.assertRegex(said, r"Next: the plan has no evidence for its rounds: `\S*planner certify \.` makes it, where there is any")
+        self.assertNotIn("certify", self.run_planner("check", ".", "plan-at-once.json")[2])
+
+    def test_old_and_new_in_the_wrong_order(self):
+        status, _, said = self.run_planner("check", "topology.json", "new.json", "old.json", "policy.json", "plan.json")
+        self.assertEqual(1, status)
+        self.assertIn("    with old.json as the old configuration and new.json as the new one the plan is accepted: are they swapped?\n", said)
+        self.assertNotIn("swapped", self.run_planner("check", ".", "plan-at-once.json")[2])
+
+    def test_text_of_ovs_ofctl_given_to_import(self):
+        for text in ("NXST_FLOW reply (xid=0x4):\n", " cookie=0x0, duration=1.3s, table=0, n_packets=0, n_bytes=0, priority=100,ip,nw_dst=10.0.0.0/24 actions=output:2\n"):
+            self.write("flows", text)
+            status, _, said = self.run_planner("import", "topology.json", "flows")
+            self.assertEqual(3, status)
+            self.assertIn("planner: flows, line 1: it is text of `ovs-ofctl dump-flows`, and no bytes of a message\n", said)
+            self.assertIn("`planner from-ofctl TOPO SWITCH=FILE` makes a configuration of that text", " ".join(said.split()))
+
+    def test_the_default_priority_of_ovs_ofctl_is_named(self):
+        self.edit("old.json", lambda value: value["rules"][0].update(priority=32768))
+        self.assertIn("    32768 is the priority that `ovs-ofctl add-flow` takes where none is given\n", self.run_planner("config", "topology.json", "old.json")[2])
+
+    def test_the_folder_of_an_update_stands_for_its_files(self):
+        """Such a folder has the old configuration and the plan; what the update began with stands in the folder above."""
+        os.mkdir(self.path("update-1"))
+        for name in ("old.json", "plan.json"):
+            os.rename(self.path(name), self.path(f"update-1/{name}"))
+        status, text, said = self.run_planner("show", "update-1")
+        self.assertEqual((0, "update-1/plan.json: ordered, 2 rounds, 2 changes at 2 switches: 0 new, 2 changed, 0 deleted", ""), (status, text.splitlines()[0], said))
+        self.assertIn("  s1: 10.0.0.0/24 to s4 (port 4), was s2 (port 2)\n", text)
+        self.assertEqual((0, "accepted: ordered, 2 rounds, 12 classes\n"), self.run_planner("check", "update-1")[:2])
+        self.assertEqual(0, self.run_planner("page", "update-1", "--layout", "own")[0])
+
+
+class OnThePath(Case):
+    """Lines that are printed to be typed."""
+
+    def test_the_planner_is_named_as_it_can_be_called_from_here(self):
+        words = ["config", "topology.json", "old.json", "policy.json"]
+        path = os.environ.get("PATH", os.defpath)
+        self.assertIn("`planner paths topology.json old.json policy.json` lists them", self.run_planner(*words, variables={"PATH": os.pathsep.join([rows.ROOT, path])})[2])
+        elsewhere = os.pathsep.join(one for one in path.split(os.pathsep) if not os.path.exists(os.path.join(one, "planner")))
+        said = self.run_planner(*words, variables={"PATH": elsewhere})[2]
+        line = next(line for line in said.splitlines() if "lists them" in line).split("`")[1]
+        self.assertNotEqual("planner", line.split()[0])
+        done = subprocess.run(["sh", "-c", line], cwd=self.folder, capture_output=True, text=True, timeout=rows.SECONDS, check=False, env={**os.environ, "PLANNER": PROGRAM})
+        self.assertEqual((0, "12 classes: "), (done.returncode, done.stdout.splitlines()[-1][:12]))
+
 
 if __name__ == "__main__":
     unittest.main()

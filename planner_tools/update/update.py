@@ -158,7 +158,7 @@ class Update:
             raise Stopped("the question", "it isn't wanted", f"the plan stays in {self.path('plan.json')}")
 
     def apply_words(self):
-        words = ["planner", "apply", self.files["topology"], self.path("old.json"), self.files["new"], self.files["policy"], self.path("plan.json"), self.path("record")]
+        words = [program.typed(), "apply", self.files["topology"], self.path("old.json"), self.files["new"], self.files["policy"], self.path("plan.json"), self.path("record")]
         wait = ["--ask"] if self.options.ask else ["--wait", f"{self.options.wait:g}"]
         return [*words, *self.connection_words(), *wait, "--patience", f"{self.options.patience:g}"]
 

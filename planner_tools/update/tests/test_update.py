@@ -15,6 +15,9 @@ sys.path.insert(0, str(pathlib.Path(__file__).resolve().parents[2] / "switches" 
 from network import EXAMPLES, FRONT_END, LONGEST, PLANNER, Network  # noqa: E402
 from planner_tools.update import summary  # noqa: E402
 
+# The lines that are printed to be typed name the planner by its name where it is on the path.
+os.environ["PATH"] = os.pathsep.join([str(FRONT_END.parent), os.environ["PATH"]])
+
 FLOW_MESSAGE = bytes.fromhex("010e")
 
 
