@@ -4,12 +4,13 @@ _planner() {
     local files=0
     COMPREPLY=()
     if [ "$COMP_CWORD" -eq 1 ]; then
-        mapfile -t COMPREPLY < <(compgen -W "config paths trace plan pack check certify explain simulate replay tables upgrade import emit drive serve sample collect apply update show page from-ofctl from-mininet from-graphml to-ofctl install --help --version" -- "${COMP_WORDS[1]}")
+        mapfile -t COMPREPLY < <(compgen -W "config paths trace plan pack check certify explain simulate replay tables upgrade import emit drive serve sample collect adopt apply update show page from-ofctl from-mininet from-graphml to-ofctl install --help --version" -- "${COMP_WORDS[1]}")
         return
     fi
     if [[ ${COMP_WORDS[COMP_CWORD]} == -* ]]; then
         local options="--help -o --strict --quiet"
         case ${COMP_WORDS[1]} in
+            adopt) options="--switches --listen --own --patience --yes --dry-run $options" ;;
             collect) options="--switches --listen --patience $options" ;;
             apply) options="--switches --listen --wait --ask --patience --resume --back --repair --take-over --no-mark $options" ;;
             show) options="--json --wait $options" ;;

@@ -6,6 +6,7 @@ from planner_tools import program
 
 # The modules of the front end's own commands. Each has `main`, which takes the words behind the command and returns the exit status.
 MODULES = {
+    "adopt": "planner_tools.switches.adopt",
     "apply": "planner_tools.switches.apply",
     "collect": "planner_tools.switches.collect",
     "from-graphml": "planner_tools.convert.from_graphml",

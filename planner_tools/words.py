@@ -124,6 +124,11 @@ FRONT = [
     Command("collect", "TOPO --switches FILE",
             "what the switches answer when they are asked for their tables: the REPLIES that `import` reads",
             "Asks each switch for its flow table, and writes what `planner import` reads. What a configuration can't say is refused, in words.", False),
+    Command("adopt", "NET --switches FILE",
+            "a network as one finds it: what of its tables can be taken over, and from a bridge's default entry to entries of one's own, after a question",
+            "Reads the tables of the switches, says what of them the planner takes, leaves out and can't say, and writes NET/old.json. Where bridges have the default "
+            "entry of standalone mode, or are empty, the rules of --own, or of NET/new.json, are put in first, and then the default entries are taken away, each alone. "
+            "With --dry-run it ends before the question, with --yes it doesn't ask.", False),
     Command("apply", "TOPO OLD NEW POLICY PLAN INPUT --switches FILE",
             "carries a plan out on the switches, round by round, or takes it back; INPUT is the record of it",
             "Carries out a plan on the switches. When it begins, before each round, after each lost connection and at the end it compares what they have with what "
@@ -176,7 +181,7 @@ WISHES = [
     ("what goes wrong under a plan that isn't", ["explain"]),
     ("a plan, rules or a run in words, or in the browser", ["show", "page"]),
     ("to try a plan: a run of it, where its packets went, and the tables then", ["simulate", "replay", "tables"]),
-    ("to change the switches", ["update", "collect", "apply"]),
+    ("to change the switches", ["update", "adopt", "collect", "apply"]),
     ("the bytes, and what a controller sends", ["import", "emit", "drive", "serve"]),
     ("my files from what I have, and back", ["from-ofctl", "from-mininet", "from-graphml", "to-ofctl"]),
     ("the rest", ["upgrade", "sample", "install"]),
@@ -195,6 +200,8 @@ CONNECTIONS = [("--switches FILE", "which switches there are: a line for each, i
 CARRYING_OUT = [("--wait SECONDS", "how long after a round was settled the next one begins (2 s)"), ("--ask", "a round begins when the operator presses Enter"),
                 ("--patience SECONDS", "how long a switch may be away, or take for an answer (60 s)")]
 OWN_OPTIONS = {
+    "adopt": [*CONNECTIONS, ("--own CONFIG", "rules that are put in where they aren't there (NET/new.json where nothing is taken)"),
+              ("--patience SECONDS", "how long a switch may take (15 s)"), ("--yes", "doesn't ask before the first change"), ("--dry-run", "ends before the first change")],
     "collect": [*CONNECTIONS, ("--patience SECONDS", "how long a switch may take (10 s)")],
     "apply": [*CONNECTIONS, *CARRYING_OUT, ("--resume", "goes on with the record of an earlier run"),
               ("--back", "goes on with it backwards: turns the round that runs, and undoes those that are settled, one by one, up to OLD"),
