@@ -22,6 +22,7 @@ import sys
 from planner_tools import program
 from planner_tools.switches import apply, collect
 from planner_tools.switches.connections import host_and_port
+from planner_tools.update.meanwhile import meanwhile
 from planner_tools.update.summary import summary
 
 WANTED = ("topology", "new", "policy")
@@ -75,6 +76,8 @@ class Update:
             say(f"the switches have the tables of {self.files['new']} already: nothing is to be done")
             return 0
         for line in summary(plan, self.switches, None if self.options.ask else self.options.wait):
+            say(line)
+        for line in self.meanwhile(plan):
             say(line)
         if self.options.dry_run:
             say(f"a dry run ends here: nothing was sent. The plan is {self.path('plan.json')}")
@@ -147,6 +150,11 @@ class Update:
         self.write("plan.json", text)
         say(self.of_program("check", "check", *files, self.path("plan.json")).strip())
         return json.loads(text)
+
+    def meanwhile(self, plan):
+        """What is to be known of packets outside of the model, and of cookies."""
+        with open(self.path("old.json"), encoding="utf-8") as old, open(self.path("replies"), encoding="ascii") as replies:
+            return meanwhile(plan, json.load(old)["rules"], replies.read())
 
     def ask(self):
         if self.options.yes:
