@@ -10,6 +10,7 @@ import shlex
 from planner_tools import program
 from planner_tools.convert.common import UNWRITABLE, Refused, read_text, run, say
 from planner_tools.proved import beside
+from planner_tools.switches.connections import Stop, address_words, listed_address
 from planner_tools.words import IN_FOLDER
 
 # The command for each change. `ovs-ofctl` waits for the barrier reply of the switch before it ends, and its status tells of an error.
@@ -88,7 +89,10 @@ def read_targets(path):
         words = line.split("#")[0].split()
         if words and not 2 <= len(words) <= 3:
             raise Refused(f"{path}:{number}: not `NAME DATAPATH [HOST:PORT]`")
-        targets |= {words[0]: f"tcp:{words[2]}"} if len(words) == 3 else {}
+        try:
+            targets |= {words[0]: f"tcp:{address_words(listed_address(words[2], f'{path}:{number}'))}"} if len(words) == 3 else {}
+        except Stop as stop:
+            raise Refused(stop.what, stop.then) from None
     return targets
 
 

@@ -231,8 +231,12 @@ class ToOfctl(unittest.TestCase):
             file.write("s1 00000000000000a1 127.0.0.1:6653\ns3 00000000000000a3\n")
             file.flush()
             [first, second] = self.scripts(EXAMPLES / "square" / "plan.json", "--switches", file.name)
+            file.write("s1 00000000000000a1 tcp:[::1]:6653\n")
+            file.seek(0)
+            [third, _] = self.scripts(EXAMPLES / "square" / "plan.json", "--switches", file.name)
         self.assertIn(" tcp:127.0.0.1:6653 ", first.read_text())
         self.assertIn(" s3 ", second.read_text())
+        self.assertIn(" 'tcp:[::1]:6653' ", third.read_text())
 
     def test_a_plan_that_check_refuses_is_said_to_be_such(self):
         """Where the files of the update stand beside the plan. The scripts are written all the same."""
