@@ -177,6 +177,7 @@ class Picture {
     const scale = this.onScreen(), isSmall = 15 * this.unit * scale < READABLE;
     this.svg.classList.toggle("small", isSmall);
     if (!isSmall) { this.fill("labels", ""); return; }
+    this.window = this.seen();
     const high = LABEL / scale, boxes = this.places.map(([x, y], at) => this.boxOf(x, y, this.half(Object.assign([x, y], { at })), 15 * this.unit)), taken = [], lines = [];
     for (const at of new Set([...this.first, ...this.places.keys()])) {
       const isFirst = this.first.includes(at), wide = 0.64 * high * this.update.names[at].length;
@@ -211,11 +212,21 @@ class Picture {
     return [...boxes.filter((box) => this.isInside(box)), ...boxes.filter((box) => !this.isInside(box)).map((box) => this.movedInside(box))];
   }
 
-  isInside(box) { return box.left >= 0 && box.top >= 0 && box.right <= this.layout.width && box.low <= this.layout.height; }
+  // What is seen of the picture: the view, and what lies beside it where the place for it has another form.
+  seen() {
+    const box = this.svg.getBoundingClientRect(), scale = this.onScreen(), [left, top, width, height] = this.view || [0, 0, this.layout.width, this.layout.height];
+    const wide = Math.max(width, box.width / scale), high = Math.max(height, box.height / scale);
+    return { left: left + (width - wide) / 2, right: left + (width + wide) / 2, top: top + (height - high) / 2, low: top + (height + high) / 2 };
+  }
 
-  // A box moved so far that none of it is cut off at the edge of the picture.
+  isInside(box) {
+    const seen = this.window;
+    return box.left >= seen.left && box.top >= seen.top && box.right <= seen.right && box.low <= seen.low;
+  }
+
+  // A box moved so far that none of it is cut off at the edge of what is seen.
   movedInside({ left, right, top, low }) {
-    const { width, height } = this.layout, dx = left < 0 ? -left : Math.min(0, width - right), dy = top < 0 ? -top : Math.min(0, height - low);
+    const seen = this.window, dx = Math.max(0, seen.left - left) + Math.min(0, seen.right - right), dy = Math.max(0, seen.top - top) + Math.min(0, seen.low - low);
     return { left: left + dx, right: right + dx, top: top + dy, low: low + dy };
   }
 

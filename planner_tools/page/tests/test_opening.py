@@ -61,9 +61,9 @@ class Opening(PagesInBrowser):
         self.assertIn("dropped by s3: its output is the port it came in by", self.seen("#packetclass"))
 
     def test_no_name_is_cut_off(self):
-        for count in (24, 64):
+        for count in (24, 48):
             update = networks.ring(count)
-            names = {f"r{number}": f"switch-number-{number:03}" for number in range(count + 1)}
+            names = {f"r{number}": f"switch-with-a-very-long-name-{number:03}" for number in range(count + 1)}
             text = json.dumps(list(update))
             for name in sorted(names, key=len, reverse=True):
                 text = text.replace(f'"{name}"', f'"{names[name]}"').replace(f'"{name}:', f'"{names[name]}:')
