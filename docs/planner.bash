@@ -4,19 +4,25 @@ _planner() {
     local files=0 choices=
     COMPREPLY=()
     if [ "$COMP_CWORD" -eq 1 ]; then
-        mapfile -t COMPREPLY < <(compgen -W "config paths trace plan pack check certify explain simulate replay tables upgrade import emit drive serve sample collect apply update show diff links policy route page from-ofctl from-mininet from-graphml to-ofctl install --help --version" -- "${COMP_WORDS[1]}")
+        mapfile -t COMPREPLY < <(compgen -W "config paths trace plan pack check certify explain simulate replay tables upgrade import emit drive serve sample collect adopt apply update show diff links policy route page from-ofctl from-mininet from-graphml to-ofctl install --help --version" -- "${COMP_WORDS[1]}")
         return
     fi
     if [[ ${COMP_WORDS[COMP_CWORD]} == -* ]]; then
         local options="--help -o --strict --quiet --json"
         case ${COMP_WORDS[1]} in
             pack) options="--wait $options" ;;
+            adopt) options="--switches --listen --own --patience --yes --dry-run $options" ;;
             collect) options="--switches --listen --patience $options" ;;
             apply) options="--switches --listen --wait --ask --patience --resume --back --recover --repair --take-over --no-mark $options" ;;
-            diff) options="--json $options" ;;
-            links) options="--empty --json $options" ;;
+            links) options="--empty $options" ;;
             policy) options="--through --changed --most $options" ;;
             route) options="--drain --weights --from $options" ;;
+            show) options="--wait $options" ;;
+            page) options="--schedule --planner --layout $options" ;;
+            from-ofctl) options="--drop-unsayable $options" ;;
+            from-mininet) options="--hosts --vlans --tags --capacity $options" ;;
+            from-graphml) options="--hosts --external --vlans --tags --capacity --names --distances --speeds $options" ;;
+            to-ofctl) options="--switches $options" ;;
             update) options="--switches --listen --wait --ask --patience --yes --dry-run $options" ;;
         esac
         mapfile -t COMPREPLY < <(compgen -W "$options" -- "${COMP_WORDS[COMP_CWORD]}")

@@ -6,6 +6,7 @@ import json
 import os
 
 from planner_tools import network as nets
+from planner_tools import program
 from planner_tools.files import NotJson, did_you_mean, member_path, nearest, read_json
 from planner_tools.members import MEMBERS, OF_OTHERS
 
@@ -24,11 +25,28 @@ INNER = {"topology": {"switches": "switch"}, "configuration": {"rules": "rule"},
 TOLD = 6
 
 
-class Caution:
-    """What is told before an answer. A note is no warning: nothing has to be changed."""
+# A member of this name, or one whose name begins so, is a remark of whoever wrote the file: nothing is said of it.
+REMARK, REMARK_BEGINS = "comment", "_"
 
-    def __init__(self, what, more=(), is_warning=True):
-        self.what, self.more, self.is_warning = what, more, is_warning
+
+class Caution:
+    """What is told before an answer. A note is no warning: nothing has to be changed. Of several of one kind the first one is told, with the places of the
+    others; one without a kind stands alone."""
+
+    def __init__(self, what, more=(), is_warning=True, kind=None, place=""):
+        self.what, self.more, self.is_warning, self.kind, self.place = what, list(more), is_warning, kind, place
+
+
+def grouped(found):
+    """The first caution of each kind, with how many more there are like it, and where."""
+    first, others = {}, {}
+    for one in found:
+        if first.setdefault(one.kind or one, one) is not one:
+            others.setdefault(one.kind, []).append(one.place)
+    for kind, places in others.items():
+        told = ", ".join(places[:TOLD]) + (f" and {len(places) - TOLD} more" if len(places) > TOLD else "")
+        first[kind].more.insert(0, f"{len(places)} more like it: {told}")
+    return list(first.values())
 
 
 def cautions(run):
@@ -40,7 +58,7 @@ def cautions(run):
     config = JUDGING.get(run.command.name)
     if config and all(size_of(run.files[word]) <= LONGEST_OTHER for word in ("TOPO", config, "POLICY") if word in run.files):
         found += coverage_cautions(run, config)
-    return found
+    return grouped(found)
 
 
 def size_of(file):
@@ -53,7 +71,7 @@ def size_of(file):
 # ---- members that count for nothing
 
 def member_cautions(kind, file):
-    """Warnings about members that no format knows, and members that stand twice."""
+    """Warnings about members that no format knows, and members that stand twice. Remarks are passed over."""
     try:
         with open(file.real, "rb") as source:
             data = source.read()
@@ -82,7 +100,7 @@ def has_odd_member(kind, text):
 
     def look(pairs):
         made = dict(pairs)
-        (objects if len(made) == len(pairs) else twice).append(made)
+        (objects if len(made) == len(pairs) or not has_double(pairs) else twice).append(made)
         return made
 
     root = json.loads(text, object_pairs_hook=look)
@@ -93,9 +111,20 @@ def has_odd_member(kind, text):
         known = set(MEMBERS[inner])
         for item in plain_objects_in(root.get(name), len(objects) - looked):
             looked += 1
-            if not known.issuperset(item):
+            if has_unknown(item, known):
                 return True
-    return not set(MEMBERS[kind]).issuperset(root)
+    return has_unknown(root, set(MEMBERS[kind]))
+
+
+def has_double(pairs):
+    """Whether a member of an object that is no remark stands twice."""
+    names = [name for name, _ in pairs if not is_remark(name)]
+    return len(set(names)) < len(names)
+
+
+def has_unknown(item, known):
+    """Whether an object has a member that is neither known nor a remark."""
+    return not known.issuperset(item) and not all(name in known or is_remark(name) for name in item)
 
 
 def plain_objects_in(value, most):
@@ -124,18 +153,24 @@ def objects_in(value, way):
             yield from objects_in(item, (*way, number))
 
 
+def is_remark(name):
+    return name == REMARK or name.startswith(REMARK_BEGINS)
+
+
 def look_at_members(text, item, way, known, found):
     seen = {}
     for name, at, value in item.held if item.kind == "object" else []:
-        path = member_path((*way, name))
+        if is_remark(name):
+            continue
+        path, kind = member_path((*way, name)), (text.path, way[:1], name)
         if name in seen:
             found.append(Caution(f"{text.where(at)}: {path} stands twice, and only the last one, {text.shown(value)}, counts",
-                                 [f"the first one: line {text.place(seen[name])[0]}, column {text.place(seen[name])[1]}"]))
+                                 [f"the first one: line {text.place(seen[name])[0]}, column {text.place(seen[name])[1]}"], kind=("twice", *kind), place=path))
         elif name not in known:
             here = [one for one, _, _ in item.held]
             guess = nearest(name, [one for one in known if one not in here]) or nearest(name, known)
             found.append(Caution(f"{text.where(at)}: {path} counts for nothing: no member has this name{f'; did you mean `{guess}`?' if guess else ''}",
-                                 [f"the members are {', '.join(f'`{one}`' for one in known)}"]))
+                                 [f"the members are {', '.join(f'`{one}`' for one in known)}"], kind=("unknown", *kind), place=path))
         seen.setdefault(name, at)
 
 
@@ -241,7 +276,8 @@ def is_undeclared(demand, vlans):
 def undeclared(number, demand, where, network):
     vlan = demand["vlan"]
     return Caution(f"{where}: demands[{number}] speaks of no packet: {'`untagged`' if vlan == 'untagged' else f'the VLAN {vlan}'} isn't declared"
-                   f"{did_you_mean(vlan, network.vlans)}", [f"the VLANs of {network.json.path} are {', '.join(map(str, network.vlans)) or 'none'}"])
+                   f"{did_you_mean(vlan, network.vlans)}", [f"the VLANs of {network.json.path} are {', '.join(map(str, network.vlans)) or 'none'}"],
+                   kind=("undeclared", vlan), place=f"demands[{number}]")
 
 
 class Covered:
@@ -291,10 +327,11 @@ def demand_cautions(files, lines, shown):
         if not count and is_undeclared(demand, vlans):
             found.append(undeclared(number, demand, where, nets.Network(files.placed("topology"))))
         elif not count:
-            found.append(Caution(f"{where}: demands[{number}] speaks of no packet: it covers no class of packets", ["the network has no host port or no VLAN"]))
+            found.append(Caution(f"{where}: demands[{number}] speaks of no packet: it covers no class of packets", ["the network has no host port or no VLAN"],
+                                 kind="no class", place=f"demands[{number}]"))
         else:
             found.append(Caution(f"{where}: demands[{number}] asks for nothing: in {shown} every packet to {demand['dst']} that it speaks of is dropped",
-                                 ["a packet that is dropped meets every demand without `deliver`"]))
+                                 ["a packet that is dropped meets every demand without `deliver`"], kind="all dropped", place=f"demands[{number}]"))
     return found
 
 
@@ -322,8 +359,8 @@ def paths_words(run, config):
     """The command that lists the paths of all classes, as it can be typed."""
     found = [run.files[word] for word in ("TOPO", config, "POLICY")]
     if all(one.folder for one in found):
-        return f"planner paths {found[0].folder} {os.path.basename(found[1].shown)}"
-    return f"planner paths {' '.join(one.shown for one in found)}"
+        return f"{program.typed()} paths {found[0].folder} {os.path.basename(found[1].shown)}"
+    return f"{program.typed()} paths {' '.join(one.shown for one in found)}"
 
 
 def listed(lines):
@@ -340,10 +377,11 @@ def unserved_cautions(lines, files, shown):
         if host in known and host not in ends and host not in served_hosts:
             dead.add(host)
             where = files.where("topology", "hosts", number)
-            found.append(Caution(f"{where}: no rule of {shown} serves the host port {host}: every packet that enters there is dropped at once, and none leaves there"))
+            found.append(Caution(f"{where}: no rule of {shown} serves the host port {host}: every packet that enters there is dropped at once, and none leaves there",
+                                 kind="unserved host", place=host))
     served_vlans = {vlan for _, vlan in served}
     for number, vlan in enumerate(topology["vlans"]):
         if known - dead and str(vlan) not in served_vlans:
             where = files.where("topology", "vlans", number)
-            found.append(Caution(f"{where}: no rule of {shown} serves packets {nets.vlan_words(vlan)}: each is dropped where it enters"))
+            found.append(Caution(f"{where}: no rule of {shown} serves packets {nets.vlan_words(vlan)}: each is dropped where it enters", kind="unserved VLAN", place=str(vlan)))
     return found

@@ -7,6 +7,7 @@ import os
 import re
 
 from planner_tools import network as nets
+from planner_tools import program
 from planner_tools.files import NotJson, counted, did_you_mean, like, member_path, read_json, short
 from planner_tools.words import CHOICES
 
@@ -16,6 +17,8 @@ WORD_OF_KIND = {"topology": "TOPO", "config": "CONFIG", "old": "OLD", "new": "NE
 LIMITS = {"plan": "512 MiB", "schedule": "64 MiB", "input": "64 MiB"}
 # Files longer than this aren't looked at for the place of a fault.
 LONGEST = 16 << 20
+# Files longer than this aren't checked a second time, with the configurations the other way round.
+LONGEST_TWICE = 4 << 20
 BAD = re.compile(r"bad (\w+): (\d+) (\w+)(?: (\S+))? at (\d+)")
 NO_EVIDENCE = re.compile(r"no evidence: round (\d+) at (\S+) (\S+) ([\d.]+)")
 CLASS = re.compile(r"(\S+) (\S+) ([\d.]+)")
@@ -60,7 +63,7 @@ class Explainer:
         """A command line for files of this run, as it can be typed: with the folder where they were taken from one."""
         found = [self.run.files[word] for word in words if word in self.run.files]
         folder = [one.folder for one in found if one.folder][:1]
-        return " ".join(["planner", name, *folder, *(one.shown for one in found if not one.folder)])
+        return " ".join([program.typed(), name, *folder, *(one.shown for one in found if not one.folder)])
 
     # ---- yes
 
@@ -105,7 +108,9 @@ class Explainer:
         sentence = ENDS[how].format(end={"CONFIG": "", "OLD": "old", "NEW": "new"}[word], packet=packet, switch=switch).replace("the  config", "the config")
         more = self.path_lines(word, host, vlan, address)
         more += self.wanted_lines(host, vlan, address)
-        more += [{"Loop": f"Next: change the rules of {self.shown(word)} so that this packet leaves, or is dropped",
+        is_back = any(line.endswith(nets.BACK) for line in more)
+        more += [f"Next: let {switch} send it to another port in {self.shown(word)}, where it is to arrive; where others that come in elsewhere need that rule, by a rule of "
+                 "greater priority with `in_port`"] if is_back and how == "Dropped" else [{"Loop": f"Next: change the rules of {self.shown(word)} so that this packet leaves, or is dropped",
                   "Dropped": f"Next: give {switch} a rule for it in {self.shown(word)}, or ask for no `deliver` of it",
                   "Missed": f"Next: lead it by {switch} in {self.shown(word)}, or take {switch} out of `through` of that demand"}[how]]
         self.voice.refuse(f"{self.shown(word)}: {sentence}", more)
@@ -180,11 +185,27 @@ class Explainer:
                 more += self.path_lines(word, parts["host"], parts["vlan"], parts["address"])
             more += self.wanted_lines(parts["host"], parts["vlan"], parts["address"])
         update = ("TOPO", "OLD", "NEW", "POLICY", "PLAN")
+        more += self.swapped_lines()
+        if number in (6, 9) and self.has_no_evidence():
+            more.append(f"Next: the plan has no evidence for its rounds: `{self.command('certify', *update)}` makes it, where there is any")
         if number in (6, 7, 8, 9, 10):
             more.append(f"Next: `{self.command('explain', *update)}` looks for a run in which a packet breaks the policy; a refusal alone doesn't say that there is one")
         if self.run.command.name != "plan":
             more.append(f"Next: `{self.command('plan', *update[:4])}` makes a plan of its own")
         self.voice.refuse(sentence, more)
+
+    def has_no_evidence(self):
+        """Whether the plan of a run has rounds, and no numbers or no picks of them."""
+        plan = self.json("PLAN")
+        return plan is not None and any(value is not None and not value.items() for value in (plan.root.member("numberings"), plan.root.member("picks")))
+
+    def swapped_lines(self):
+        """What is said where the plan is one for the other way round."""
+        words = ("TOPO", "NEW", "OLD", "POLICY", "PLAN")
+        if any(word not in self.run.files or os.path.getsize(self.run.files[word].real) > LONGEST_TWICE for word in words):
+            return []
+        status, _ = self.run.ask("check", *(self.run.files[word].real for word in words))
+        return [f"with {self.shown('NEW')} as the old configuration and {self.shown('OLD')} as the new one the plan is accepted: are they swapped?"] if status == 0 else []
 
     def round_lines(self, number, parts):
         """What there is to say of a reason that names no packet."""
@@ -230,18 +251,23 @@ class Explainer:
 
         given, command = self.run.given, self.run.command
         if not given:
-            self.voice.refuse("no command is given", ["`planner --help` has the commands"])
+            self.voice.refuse("no command is given", [*all_words.wish_lines(), "`planner --help` has the commands"])
             return
         if command.name not in all_words.BY_NAME:
-            names = [*all_words.BY_NAME, "--help", "--version"]
-            self.voice.refuse(f"no command is named `{given[0]}`{did_you_mean(given[0], names)}", ["`planner --help` has the commands"])
+            if is_option(given[0]):
+                self.voice.refuse(option_lines(given)[0], ["`planner --help` has the options"])
+                return
+            self.voice.refuse(f"no command is named `{given[0]}`{did_you_mean(given[0], all_words.BY_NAME)}", ["`planner --help` has the commands"])
             return
         wanted, least = command.words()
         usage = f"planner {command.name} {command.usage}"
         behind = self.run.behind
         have = len(behind)
-        if have < least:
-            self.voice.refuse(f"{', '.join(wanted[have:least])} {'is' if least - have == 1 else 'are'} missing", [usage])
+        if have < least and wanted[0] == "TOPO" and behind and self.run.folder is None and not os.path.exists(behind[0]) and behind[0] != "-" and not is_option(behind[0]):
+            self.voice.refuse(f"{behind[0]}: No such file or directory{like(behind[0])}",
+                              [f"a folder in place of TOPO stands for the names that are left out: {', '.join(wanted[have:least])} {'is' if least - have == 1 else 'are'} missing", usage])
+        elif have < least:
+            self.voice.refuse(f"{', '.join(wanted[have:least])} {'is' if least - have == 1 else 'are'} missing", [usage, *option_lines(given)])
         elif have > len(wanted):
             self.voice.refuse(f"{counted(have, 'word')} stand behind `{command.name}`, and it takes {counted(len(wanted), 'word')}", [usage, *option_lines(given)])
         else:
@@ -353,9 +379,6 @@ class Explainer:
                 with open(found.real, "rb") as file:
                     file.read(1)
             except OSError as fault:
-                if found.shown.startswith("--"):
-                    self.voice.refuse(option_lines([found.shown])[0], ["`planner --help` has the options"])
-                    return
                 more = [f"the folder {found.folder} stands for the names that are left out, and has to have this file"] if found.folder else []
                 self.voice.refuse(f"{found.shown}: {fault.strerror}{like(found.real, bool(found.folder)) if fault.errno == 2 else ''}", more)
                 return
@@ -388,12 +411,14 @@ def demand_words(demand):
 
 def trace_words(text, net):
     """The lines of `trace` in words."""
-    lines = []
+    lines, is_back = [], False
     for line in text.splitlines():
         found = re.fullmatch(r"(\S+):(\d+) (\S+): (?:no rule|(\d+) (\S+) (\S+) (\S+) -> (?:drop|port (\d+)))", line)
         if not found:
-            lines.append({"left": "leaves at {1}", "dropped": "dropped by {1}", "again": "comes to {1} again"}.get(line.split(" ")[0], line).format(*line.split(" ")))
+            lines.append({"left": "leaves at {1}", "dropped": "dropped by {1}", "again": "comes to {1} again"}.get(line.split(" ")[0], line).format(*line.split(" "))
+                         + (f": {nets.BACK}" if is_back and line.startswith("dropped ") else ""))
             continue
+        is_back = found[2] == found[8]
         switch, port, vlan, priority, in_port, test, dst, out = found.groups()
         if priority is None:
             lines.append(f"{switch}, port {port}: no rule matches it")
@@ -437,5 +462,9 @@ def spelling(word, text):
 
 def option_lines(given):
     """Words about options that the planner doesn't have."""
-    options = [one for one in given if one.startswith("--")]
-    return [f"there is no option {one}{did_you_mean(one, ['--help', '--version', '--quiet', '--strict'])}" for one in options]
+    return [f"there is no option {one}{did_you_mean(one, ['--help', '--version', '--quiet', '--strict'])}" for one in given if is_option(one)]
+
+
+def is_option(word):
+    """Whether a word is written like an option, and not like a number or a name."""
+    return re.match("--?[A-Za-z]", word) is not None

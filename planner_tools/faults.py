@@ -285,7 +285,8 @@ class Configuration(Rules):
         if bad:
             yield bad
         elif not 1 <= item.member("priority").whole() <= 16383:
-            yield Fault("BadPriority", "", number, (*way, "priority"), "a priority is 1 to 16383; those above are the planner's own", "a whole number from 1 to 16383")
+            yield Fault("BadPriority", "", number, (*way, "priority"), "a priority is 1 to 16383; those above are the planner's own", "a whole number from 1 to 16383",
+                        more=["32768 is the priority that `ovs-ofctl add-flow` takes where none is given"] if item.member("priority").whole() == 32768 else [])
         bad = self.of_kind(item, way, number, "in_port", ["whole", "any"], "the number of a port, or `any`", known, True)
         yield from [bad] if bad else self.port(item, way, number, "in_port")
         bad = self.of_kind(item, way, number, "vlan", ["whole", "untagged", "any"], VLAN_TEST_WORDS, known, True)

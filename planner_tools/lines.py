@@ -119,6 +119,8 @@ def bad_input(line, names):
 def bad_reply(line, names):
     """What is wrong with a line of flow statistics, and what would be right."""
     words, right = line.split(), "the name of a switch, a space, and the bytes of one message in hexadecimal digits"
+    if re.search(r"(NXST|OFPST)_FLOW reply|(^|[ ,])actions=|^\s*cookie=0x", line):
+        return "it is text of `ovs-ofctl dump-flows`, and no bytes of a message", f"{right}; `planner from-ofctl TOPO SWITCH=FILE` makes a configuration of that text"
     if not words:
         return "the line has nothing but white space", right
     return bad_switch(words[0], names) or shape_fault(line) or ("two words have to stand in a line" if len(words) != 2 else bad_hex(words[1])), right

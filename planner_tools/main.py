@@ -6,6 +6,7 @@ from planner_tools import program
 
 # The modules of the front end's own commands. Each has `main`, which takes the words behind the command and returns the exit status.
 MODULES = {
+    "adopt": "planner_tools.switches.adopt",
     "apply": "planner_tools.switches.apply",
     "collect": "planner_tools.switches.collect",
     "diff": "planner_tools.intent.diff",
@@ -53,7 +54,7 @@ def take_options(words):
             options.is_strict = True
         elif word == "-o":
             options.output = next(given, None)
-            if options.output is None:
+            if not options.output:
                 raise ValueError("behind -o the name of a file is missing")
         else:
             rest.append(word)
@@ -114,8 +115,18 @@ def unwritten(fault):
     return UNWRITTEN
 
 
+def spelled_out(words):
+    """The words, where `help`, -h and -V stand for what they mean elsewhere."""
+    if words[:1] == ["help"]:
+        return [*words[1:2], "--help"]
+    if words[:1] in (["-h"], ["-V"]):
+        return ["--help" if words[0] == "-h" else "--version", *words[1:]]
+    return ["--help" if word == "-h" and words[0] not in MODULES else word for word in words]
+
+
 def answer(words, begin=None):
     """Does what the words say. `begin` makes the run of a proved command, where that isn't a `Run`."""
+    words = spelled_out(words)
     if words[:1] == ["--version"]:
         from planner_tools.version import VERSION
         print(f"planner {VERSION}\n{program.described()}")
@@ -145,13 +156,44 @@ def answer(words, begin=None):
         return INTERRUPTED
 
 
-def unfolded(words):
+def is_option(word):
+    """Whether a word is none of a file: the name `-` is that of the standard input."""
+    return word.startswith("-") and word != "-"
+
+
+def missing_folder(words):
+    """Says of a command of the front end that its one name is none of a file or a folder that is there."""
+    from planner_tools.files import like
+    from planner_tools.proved import Stop
+    if not is_option(words[1]) and not os.path.exists(words[1]) and (len(words) == 2 or is_option(words[2])):
+        raise Stop(f"{words[1]}: No such file or directory{like(words[1])}", WRONG_WORDS, [f"a folder stands for the files that are left out: planner {words[0]} FOLDER"])
+
+
+def warn_of_doubtful(words, options):
+    """Warns of words of a command of the front end that name a file of the working folder, though the folder before them has one of that name."""
+    from planner_tools.proved import BAD_FILE, Stop, doubtful
+    from planner_tools.voice import Voice
+    is_quiet, is_strict = options.is_quiet or "--quiet" in words, options.is_strict or "--strict" in words
+    found = doubtful(words[1], words[2:])
+    for what, more in found:
+        Voice(is_quiet=is_quiet and not is_strict).warn(what, more)
+    if found and is_strict:
+        raise Stop("nothing is done, as there are warnings and --strict is given", BAD_FILE)
+
+
+def unfolded(words, options):
     """The words of a command of the front end, where a folder stands for the names of files that are left out before its options."""
-    if words[0] not in UNFOLDING or len(words) < 2 or not os.path.isdir(words[1]):
+    if words[0] not in UNFOLDING or len(words) < 2:
+        return words
+    if words[0] == "page" and words[1] == "-" and (len(words) == 2 or is_option(words[2])):
+        words = ["page", ".", *words[1:]]
+    if not os.path.isdir(words[1]):
+        missing_folder(words)
         return words
     from planner_tools.proved import Run
     from planner_tools.words import BY_NAME
-    end = next((at for at, word in enumerate(words) if word.startswith("-")), len(words))
+    warn_of_doubtful(words, options)
+    end = next((at for at, word in enumerate(words) if is_option(word)), len(words))
     wanted = [word for word in BY_NAME[words[0]].usage.partition(" -")[0].split() if not word.startswith("[")]
     return [words[0], *(getattr(one, "shown", one) for one in Run.unfolded(words[1], wanted, len(wanted), words[2:end])), *words[end:]]
 
@@ -160,19 +202,21 @@ def run_module(words, options):
     """Runs a command of the front end itself; with `-o` its output goes into a file, which is there only where the status is 0."""
     import importlib
     words = [*words, *options.flags()] if words[0] in WITH_FLAGS else words
-    command, words = importlib.import_module(MODULES[words[0]]).main, unfolded(words)
+    command, words = importlib.import_module(MODULES[words[0]]).main, unfolded(words, options)
     if options.output is None:
         try:
             return command(words[1:])
         except OSError as fault:
             return unwritten(fault)
-    from planner_tools.proved import Output
+    from planner_tools.proved import Output, Stop
     output, before = Output(options.output), sys.stdout
     try:
         with open(output.handle, "w", encoding="utf-8", closefd=False) as sys.stdout:
             status = command(words[1:])
         output.end(status)
         return status
+    except OSError as fault:
+        raise Stop(f"{options.output}: the output couldn't all be written: {fault.strerror}", UNWRITTEN) from fault
     finally:
         sys.stdout = before
         output.drop()

@@ -77,6 +77,10 @@ class Network:
         return f"the host at {end}" if end in self.hosts else f"port {port}, which nothing is known to be behind"
 
 
+# What is said of a rule whose output is the port that the packet came in by: OpenFlow 1.0 sends nothing back by an ordinary output.
+BACK = "its output is the port it came in by"
+
+
 def match_words(rule):
     """What a rule matches, in words: the prefix, and the ingress port and the VLAN where they count."""
     words = rule["dst"]

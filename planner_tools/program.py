@@ -22,6 +22,17 @@ class NoProgram(Exception):
     """There is no program to run, or it can't be run: why, and what to do."""
 
 
+def typed():
+    """How this front end is called from here: by its name where that is on the path, otherwise by its path."""
+    import shutil
+    found = shutil.which("planner")
+    if found and os.path.realpath(found) == FRONT_END:
+        return "planner"
+    path = os.path.relpath(FRONT_END)
+    path = min(path, FRONT_END, key=len)
+    return path if os.sep in path else os.path.join(".", path)
+
+
 def is_checkout():
     return os.path.isfile(BUILD) and os.path.isdir(os.path.join(ROOT, "crates"))
 

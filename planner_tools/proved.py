@@ -10,6 +10,8 @@ from planner_tools.voice import Voice
 KEPT = 4 << 20
 WRONG_WORDS, BAD_FILE, UNREAD, UNWRITTEN = 2, 3, 6, 7
 STANDARD_OUTPUT = 1
+INPUT_NAME = "the standard input"
+TWICE = "`-` stands twice among the words, and the standard input can be read only once"
 
 
 class How:
@@ -31,7 +33,7 @@ REFUSALS = How(is_quiet=True)
 
 def answer_for(how, *given, good=(0,)):
     """Runs the program for a person, of whose answer more is to be made. Returns its status and its text."""
-    run = Run(list(map(str, given)), how)
+    run = Run([one if isinstance(one, Given) else str(one) for one in given], how)
     run.for_person(run.keep_all, program.path, good)
     return run.status, run.text
 
@@ -67,14 +69,80 @@ class Given:
         self.real, self.shown, self.folder, self.typed = real, shown, folder, typed or shown
 
 
+def standard_input():
+    """All of the standard input, in a file that goes when it is closed."""
+    import shutil
+    import tempfile
+    if sys.stdin is None:
+        raise Stop("the standard input is closed", UNREAD)
+    spooled = tempfile.NamedTemporaryFile(prefix="planner-")
+    shutil.copyfileobj(sys.stdin.buffer, spooled)
+    spooled.flush()
+    return spooled
+
+
+class Names:
+    """The files that some words name, where one of them may be `-`, the standard input. Each is a path, which knows the name that is told."""
+
+    def __init__(self):
+        self.spooled = None
+
+    def real(self, word):
+        """The path of a file."""
+        if word != "-":
+            return word
+        if self.spooled is not None:
+            raise Stop(TWICE, WRONG_WORDS)
+        self.spooled = standard_input()
+        return self.spooled.name
+
+    def is_input(self, path):
+        return self.spooled is not None and path == self.spooled.name
+
+    def shown(self, path):
+        """The name of a file, as it is told."""
+        return INPUT_NAME if self.is_input(path) else path
+
+    def given(self, path):
+        """The file for a run of the program."""
+        return Given(path, INPUT_NAME) if self.is_input(path) else path
+
+
 def joined(folder, name):
     return name if folder == "." else os.path.join(folder, name)
+
+
+def beside(folder, name):
+    """The path of a file of a folder; where it is an update's, of the folder above it, which has the files that the update began with. None where there is none."""
+    above = os.path.normpath(os.path.join(folder, os.pardir))
+    is_update = os.path.isfile(os.path.join(folder, "plan.json")) and not os.path.isfile(os.path.join(folder, "topology.json"))
+    return next((path for path in (joined(folder, name), *([joined(above, name)] if is_update else [])) if os.path.isfile(path)), None)
 
 
 def inside(folder, name):
     """A word behind a folder: where it names no file, but one of the folder, it is that one."""
     path = joined(folder, name)
     return Given(path, path, typed=name) if not os.path.exists(name) and os.path.isfile(path) else name
+
+
+def doubtful(folder, given):
+    """Of words behind a folder those that name a file of the working folder, though the folder has another file of that name: what is said of each."""
+    found = []
+    for word in given:
+        path = joined(folder, word) if isinstance(word, str) else ""
+        if os.path.basename(str(word)) == word and os.path.isfile(word) and os.path.isfile(path) and not is_same(word, path):
+            found.append((f"{word} is the file of the working folder, and {folder} has another one of this name",
+                          [f"`{path}` names that one, and `{os.path.join('.', word)}` the one that is taken without this warning"]))
+    return found
+
+
+def is_same(one, other):
+    """Whether two files hold the same."""
+    import filecmp
+    try:
+        return filecmp.cmp(one, other, shallow=False)
+    except OSError:
+        return False
 
 
 class Run:
@@ -86,7 +154,7 @@ class Run:
         self.command = words.BY_NAME.get(given[0]) if given else None
         if self.command is None or not self.command.is_proved:
             self.command = words.Command(given[0] if given else "", "", "", "")
-        self.program, self.files, self.spooled = None, {}, None
+        self.program, self.files, self.spooled, self.folder = None, {}, None, None
         self.status, self.text, self.fault, self.target = None, "", None, options.output or "the standard output"
         self.passed, self.notes, self.warned, self.behind = list(given), [], 0, list(given[1:])
 
@@ -102,7 +170,8 @@ class Run:
             return
         wanted, least = self.command.words()
         rest = self.given[1:]
-        folder = rest[0] if rest and wanted and wanted[0] == "TOPO" and os.path.isdir(rest[0]) else None
+        folder = rest[0] if rest and wanted and wanted[0] == "TOPO" and isinstance(rest[0], str) and os.path.isdir(rest[0]) else None
+        self.folder = folder
         if folder is not None:
             rest = self.unfolded(folder, wanted, least, rest[1:])
         self.behind = [getattr(text, "typed", text) for text in rest]
@@ -120,27 +189,29 @@ class Run:
         chosen = behind[-1:] if behind and names == least < len(wanted) and behind[-1] in words.CHOICES.get(wanted[names], ()) else []
         behind = [inside(folder, word) for word in behind[:len(behind) - len(chosen)]]
         count = min(max(1, least - len(behind)), names)
-        taken = [Given(path, path, folder) for path in (joined(folder, words.IN_FOLDER.get(word, "")) for word in wanted[:count])]
+        in_folder = [words.IN_FOLDER.get(word, "") for word in wanted]
+        taken = [Given(path, path, folder) for path in (beside(folder, name) or joined(folder, name) for name in in_folder[:count])]
         rest = [*taken, *behind, *chosen]
-        for word in wanted[len(rest):]:
-            path = joined(folder, words.IN_FOLDER.get(word, ""))
-            if os.path.isfile(path):
+        for name in in_folder[len(rest):]:
+            path = beside(folder, name) if name else None
+            if path is not None:
                 rest.append(Given(path, path, folder))
         return rest
+
+    def refuse_options(self):
+        """Refuses an option that isn't there, which would be taken for the name of a file."""
+        from planner_tools.explanations import is_option, option_lines
+        odd = [one.shown for one in self.files.values() if is_option(one.shown) and not os.path.exists(one.shown)]
+        if odd:
+            raise Stop(option_lines(odd)[0], WRONG_WORDS, ["`planner --help` has the options"])
 
     def file(self, text):
         if text != "-":
             return Given(text, text)
         if self.spooled is not None:
-            raise Stop("`-` stands twice among the words, and the standard input can be read only once", WRONG_WORDS)
-        if sys.stdin is None:
-            raise Stop("the standard input is closed", UNREAD)
-        import shutil
-        import tempfile
-        self.spooled = tempfile.NamedTemporaryFile(prefix="planner-")
-        shutil.copyfileobj(sys.stdin.buffer, self.spooled)
-        self.spooled.flush()
-        return Given(self.spooled.name, "the standard input")
+            raise Stop(TWICE, WRONG_WORDS)
+        self.spooled = standard_input()
+        return Given(self.spooled.name, INPUT_NAME)
 
     # ---- the run
 
@@ -152,6 +223,7 @@ class Run:
         """The one way in which the program is run for a person: the warnings about its files before it, its answer as `work` takes it, and what that means
         behind it, where its status is no good one. Returns the exit status."""
         self.resolve()
+        self.refuse_options()
         self.program = find()
         if self.is_ended_by_warnings():
             self.status = BAD_FILE
@@ -176,8 +248,9 @@ class Run:
             self.voice.note(one.what, one.more)
 
     def has_warnings(self):
-        from planner_tools.cautions import cautions
-        found = self.safely(lambda: cautions(self)) or []
+        from planner_tools.cautions import Caution, cautions
+        found = [Caution(what, more) for what, more in doubtful(self.folder, self.given[2:])] if self.folder else []
+        found += self.safely(lambda: cautions(self)) or []
         voice = Voice() if self.options.is_strict else self.voice
         warnings = [one for one in found if one.is_warning]
         self.notes = [one for one in found if not one.is_warning]
@@ -267,7 +340,7 @@ class Output:
         if path is not None and (not os.path.exists(path) or os.path.isfile(path)):
             self.open_beside()
         elif path is not None:
-            self.handle = os.open(path, os.O_WRONLY)
+            self.open_there()
 
     def open_beside(self):
         """Opens a new file beside the one that is to be written."""
@@ -276,6 +349,13 @@ class Output:
             self.handle, self.name = tempfile.mkstemp(prefix=f".{os.path.basename(self.path)}.", dir=os.path.dirname(self.path) or ".")
         except OSError as fault:
             raise Stop(f"{self.path}: {fault.strerror}", UNWRITTEN) from fault
+
+    def open_there(self):
+        """Opens what is no ordinary file, as /dev/stdout. A folder is none that can be written."""
+        try:
+            self.handle = os.open(self.path, os.O_WRONLY)
+        except OSError as fault:
+            raise Stop(f"{self.path}: {fault.strerror}", UNWRITTEN, ["-o takes the name of a file"] if os.path.isdir(self.path) else []) from fault
 
     def write(self, piece):
         while piece:
@@ -289,8 +369,8 @@ class Output:
             mask = os.umask(0)
             os.umask(mask)
             os.fchmod(self.handle, 0o666 & ~mask)
-            os.close(self.handle)
             os.replace(self.name, self.path)
+            os.close(self.handle)
         else:
             with open(self.name, "rb") as file:
                 text = file.read()

@@ -12,7 +12,8 @@ from planner_tools import network as nets
 from planner_tools import story
 from planner_tools.files import NotJson, counted, like, read_json
 from planner_tools.intent import entries
-from planner_tools.proved import Stop, joined, say_why
+from planner_tools.proved import Names, Stop, beside, doubtful, joined, say_why
+from planner_tools.voice import Voice
 
 WAIT = 2.0
 BAD_FILE = 3
@@ -20,20 +21,21 @@ BAD_FILE = 3
 OTHER = "other configuration"
 
 
-def kind_of(path):
-    """What a file holds, as far as its form tells: a topology, a plan, a configuration, or a schedule."""
+def kind_of(path, shown=None):
+    """What a file holds, as far as its form tells: a topology, a plan, a configuration, or a schedule. `shown` is its name as it is told."""
+    shown = shown or path
     try:
         root = read_json(path).root
     except NotJson as fault:
         with open(path, "rb") as file:
             begins = file.read(200).lstrip(b" \t\r\n\xef\xbb\xbf")[:1]
         if begins in (b"{", b"["):
-            raise Stop(f"{path}: it is no JSON that can be shown: {fault.what}", BAD_FILE) from fault
+            raise Stop(f"{shown}: it is no JSON that can be shown: {fault.what}", BAD_FILE) from fault
         return "schedule"
     for member, kind in (("rounds", "plan"), ("switches", "topology"), ("rules", "configuration"), ("demands", "policy")):
         if root.member(member) is not None:
             return kind
-    raise Stop(f"{path}: it is neither a plan nor a configuration", BAD_FILE, ["a plan has `rounds`, a configuration `rules`"])
+    raise Stop(f"{shown}: it is neither a plan nor a configuration", BAD_FILE, ["a plan has `rounds`, a configuration `rules`"])
 
 
 def at_folder(folder, name):
@@ -46,44 +48,51 @@ class Shown:
     """The files that are to be shown, by their kinds, with the last one as what is shown."""
 
     def __init__(self, names):
-        self.files = {}
-        names = self.unfolded(names)
+        self.files, self.names = {}, Names()
+        names = self.unfolded([self.names.real(name) for name in ([".", "-"] if names == ["-"] else names)])
         for name in names:
             if not os.path.exists(name):
                 raise Stop(f"{name}: No such file or directory{like(name)}", 6)
         for name in names[1:]:
-            kind = kind_of(name)
+            kind, shown = kind_of(name, self.names.shown(name)), self.names.shown(name)
             if kind == "configuration" and len(names) == 3 and kind in self.files:
                 kind = OTHER
             if kind in ("topology", "policy") or kind in self.files:
-                raise Stop(f"{name}: a {kind} isn't shown" if kind not in self.files else f"{name}: a {kind} stands among the words already", BAD_FILE,
+                raise Stop(f"{shown}: a {kind} isn't shown" if kind not in self.files else f"{shown}: a {kind} stands among the words already", BAD_FILE,
                            ["planner show TOPO [OLD] [PLAN] FILE"])
             self.files[kind] = name
-        self.topology, self.last = names[0], OTHER if OTHER in self.files else kind_of(names[-1])
+        self.topology, self.last = names[0], OTHER if OTHER in self.files else kind_of(names[-1], self.names.shown(names[-1]))
 
-    @staticmethod
-    def unfolded(names):
+    def unfolded(self, names):
         """The names, where a folder in place of the topology stands for the files of it that are left out."""
         folder = names[0]
         if not os.path.isdir(folder):
+            if not os.path.exists(folder) and len(names) < 2:
+                raise Stop(f"{folder}: No such file or directory{like(folder)}", 2, ["a folder stands for the files that are left out", "planner show TOPO [OLD] [PLAN] FILE"])
             if len(names) < 2:
                 raise Stop("the file that is to be shown is missing", 2, ["planner show TOPO [OLD] [PLAN] FILE"])
             return names
-        inside = {kind: joined(folder, name) for kind, name in (("topology", "topology.json"), ("configuration", "old.json"), ("plan", "plan.json"))}
+        inside = {kind: beside(folder, name) or joined(folder, name) for kind, name in (("topology", "topology.json"), ("configuration", "old.json"), ("plan", "plan.json"))}
+        for what, more in doubtful(folder, names[1:]):
+            Voice().warn(what, more)
         given = [at_folder(folder, name) for name in names[1:]] or [inside["plan"]]
-        before = {"plan": ["configuration"], "schedule": ["configuration", "plan"]}.get(kind_of(given[-1]) if os.path.exists(given[-1]) else "", [])
-        have = {kind_of(name) for name in given if os.path.exists(name)}
+        before = {"plan": ["configuration"], "schedule": ["configuration", "plan"]}.get(self.kind_of(given[-1]), [])
+        have = {self.kind_of(name) for name in given}
         return [inside["topology"], *(inside[kind] for kind in before if kind not in have and os.path.isfile(inside[kind])), *given]
+
+    def kind_of(self, name):
+        """What a file holds, or nothing where it isn't there."""
+        return kind_of(name, self.names.shown(name)) if os.path.exists(name) else ""
 
     def ask(self, *given):
         """The text of a run of the program over files. Where it refuses them, it is said why, and it is Stop."""
-        status, text = say_why(*given, good=(0, 1))
+        status, text = say_why(*map(self.names.given, given), good=(0, 1))
         if status not in (0, 1):
             raise Stop(None, status)
         return text
 
     def network(self):
-        return nets.Network(read_json(self.topology))
+        return nets.Network(read_json(self.topology, self.names.shown(self.topology)))
 
     def rules(self, kind="configuration"):
         """The rules of a configuration, or None where none is given."""
@@ -177,14 +186,15 @@ def configuration_lines(name, values, network):
 
 def schedule_lines(shown, network):
     """The events of a schedule in words: whole where the old configuration and the plan are given."""
-    name = shown.files["schedule"]
-    with open(name, encoding="utf-8", errors="replace") as file:
+    path = shown.files["schedule"]
+    name = shown.names.shown(path)
+    with open(path, encoding="utf-8", errors="replace") as file:
         text = file.read()
     rules, plan = shown.rules(), shown.plan()
     if rules is None or plan is None:
         events = [line for line in text.splitlines() if line and not line.startswith("#")]
         return [f"{name}: {counted(len(events), 'event')}; with OLD and PLAN before it, what each one does is shown", "", *events]
-    replay = shown.ask("replay", shown.topology, shown.files["configuration"], shown.files["plan"], name)
+    replay = shown.ask("replay", shown.topology, shown.files["configuration"], shown.files["plan"], path)
     rounds = story.Changes(plan)
     lines = story.events_in_words(text, network, rules, rounds, story.traces(replay))
     return [f"{name}: {counted(len(lines), 'event')}, {replay.splitlines()[-1]} rounds", "", *lines]
@@ -203,7 +213,7 @@ def main(words):
     asked = parser_of().parse_args(words)
     try:
         shown = Shown(asked.files)
-        network, name = None, shown.files[shown.last]
+        network, name = None, shown.names.shown(shown.files[shown.last])
         if shown.last == "plan":
             plan, rules = shown.plan(), shown.rules()
             network = shown.network()
@@ -218,7 +228,7 @@ def main(words):
             rules, others = shown.rules(), shown.rules(OTHER)
             network = shown.network()
             values = entries.values_of(rules, others, network)
-            lines = entries.lines_of(shown.files["configuration"], name, values, network)
+            lines = entries.lines_of(shown.names.shown(shown.files["configuration"]), name, values, network)
         else:
             lines = schedule_lines(shown, shown.network())
             values = {"events": lines[2:]}

@@ -126,7 +126,7 @@ def tell(explainer):
 
 def events_in_words(schedule, net, rules, changes, packets):
     """The events of a schedule, a line each. `packets` are the traces of the packets."""
-    tables, lines, round_, at, entered = Tables(rules), [], 0, {}, 0
+    tables, lines, round_, at, entered, headers = Tables(rules), [], 0, {}, 0, []
     for line in schedule.splitlines():
         words = line.split()
         if not words or line.startswith("#"):
@@ -143,20 +143,31 @@ def events_in_words(schedule, net, rules, changes, packets):
         elif words[0] == "enter":
             lines.append(f"packet {entered} enters at {words[1]}, {nets.vlan_words(words[2])}, for {words[3]}")
             at[entered], entered = 0, entered + 1
+            headers.append(words[2:4])
         elif words[0] == "lose":
             lines.append(f"packet {words[1]} is lost")
         else:
-            lines.append(hop_words(int(words[1]), packets, at))
+            lines.append(hop_words(int(words[1]), packets, at, tables, headers))
     return lines
 
 
-def hop_words(number, packets, at):
+def is_sent_back(tables, stop, vlan, address):
+    """Whether a packet meets a rule whose output is the port that it came in by. Where tags are set it isn't known which VLAN the packet has there."""
+    switch, port = nets.port_reference(stop)
+    fitting = [rule for rule in tables.rules.values() if rule["switch"] == switch and rule.get("in_port", "any") in ("any", port)
+               and str(rule.get("vlan", "any")) in ("any", vlan) and nets.covers(rule["dst"], address)]
+    is_tagged = any("set" in rule or rule.get("strip") for rule in tables.rules.values())
+    return bool(fitting) and not is_tagged and max(fitting, key=lambda rule: rule["priority"])["out"] == port
+
+
+def hop_words(number, packets, at, tables, headers):
     """A hop of a packet, whose stops are known."""
     stops, end, where, _ = packets[number]
     here = stops[at[number]]
     at[number] += 1
     if at[number] == len(stops):
-        return f"packet {number} " + (f"leaves the network at {where}" if end == "left" else f"is dropped by {where or here.rpartition(':')[0]}")
+        back = f": {nets.BACK}" if end == "dropped" and is_sent_back(tables, here, *headers[number]) else ""
+        return f"packet {number} " + (f"leaves the network at {where}" if end == "left" else f"is dropped by {where or here.rpartition(':')[0]}{back}")
     switch = stops[at[number]].rpartition(":")[0]
     been = [one.rpartition(":")[0] for one in stops[:at[number]]]
     again = ", where it has been before: it has come to a switch twice" if switch in been else ""

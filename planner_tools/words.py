@@ -132,6 +132,11 @@ FRONT = [
     Command("collect", "TOPO --switches FILE",
             "what the switches answer when they are asked for their tables: the REPLIES that `import` reads",
             "Asks each switch for its flow table, and writes what `planner import` reads. What a configuration can't say is refused, in words.", False),
+    Command("adopt", "NET --switches FILE",
+            "a network as one finds it: what of its tables can be taken over, and from a bridge's default entry to entries of one's own, after a question",
+            "Reads the tables of the switches, says what of them the planner takes, leaves out and can't say, and writes NET/old.json. Where bridges have the default "
+            "entry of standalone mode, or are empty, the rules of --own, or of NET/new.json, are put in first, and then the default entries are taken away, each alone. "
+            "With --dry-run it ends before the question, with --yes it doesn't ask.", False),
     Command("apply", "TOPO OLD NEW POLICY PLAN INPUT --switches FILE",
             "carries a plan out on the switches, round by round, or takes it back; INPUT is the record of it",
             "Carries out a plan on the switches. When it begins, before each round, after each lost connection and at the end it compares what they have with what "
@@ -206,12 +211,19 @@ WISHES = [
     ("what goes wrong under a plan that isn't", ["explain"]),
     ("a plan, rules or a run in words or the browser", ["show", "page"]),
     ("to try a plan: a run, where its packets went, the tables then", ["simulate", "replay", "tables"]),
-    ("to change the switches", ["update", "collect", "apply"]),
+    ("to change the switches", ["update", "adopt", "collect", "apply"]),
     ("the bytes, and what a controller sends", ["import", "emit", "drive", "serve"]),
     ("my files from what I have, drafts of them, and back", ["from-ofctl", "from-mininet", "from-graphml", "policy", "route", "to-ofctl"]),
     ("the rest", ["upgrade", "sample", "install"]),
 ]
 BY_NAME = {command.name: command for command in COMMANDS}
+
+
+def wish_lines():
+    """What there is for whom, in short."""
+    return [f"{', '.join(names)}: {wish}" for wish, names in WISHES]
+
+
 # The options of the commands that speak with switches, and what each says.
 CONNECTIONS = [("--switches FILE", "which switches there are: a line for each, its name, its datapath id, and where it listens"),
                ("--listen HOST:PORT", "where the switches connect to that don't listen")]
@@ -219,17 +231,30 @@ CARRYING_OUT = [("--wait SECONDS", "how long after a round was settled the next 
                 ("--patience SECONDS", "how long a switch may be away, or take for an answer (60 s)")]
 OWN_OPTIONS = {
     "pack": [("--wait SECONDS", "how long it is waited before each round, for what is said of the time (2 s)")],
+    "adopt": [*CONNECTIONS, ("--own CONFIG", "rules that are put in where they aren't there (NET/new.json where nothing is taken)"),
+              ("--patience SECONDS", "how long a switch may take (15 s)"), ("--yes", "doesn't ask before the first change"), ("--dry-run", "ends before the first change")],
     "collect": [*CONNECTIONS, ("--patience SECONDS", "how long a switch may take (10 s)")],
     "apply": [*CONNECTIONS, *CARRYING_OUT, ("--resume", "goes on with the record of an earlier run"),
               ("--back", "goes on with it backwards: turns the round that runs, and undoes those that are settled, one by one, up to OLD"),
               ("--recover", "makes a lost record anew from what the switches have, and goes on with it, forward or by --back"),
               ("--repair", "puts right what a switch doesn't have as it must have it, in place of stopping"),
               ("--take-over", "takes away the marks of other updates"), ("--no-mark", "puts no mark on the switches, and doesn't mind those of others")],
-    "diff": [("--json", "writes JSON, for machines")],
-    "links": [("--empty LINK", "asks whether nothing uses this link or switch"), ("--json", "writes JSON, for machines")],
+    "links": [("--empty LINK", "asks whether nothing uses this link or switch")],
     "policy": [("--through SWITCH", "a switch that a class has to meet where both of its paths meet it"), ("--changed", "demands for those classes alone whose paths differ"),
                ("--most N", "of more demands than N those that speak of most classes")],
     "route": [("--drain LINK", "a link or a switch that is to be empty"), ("--weights FILE", "the weight of each link"), ("--from CONFIG", "the rules now")],
+    "show": [("--wait SECONDS", "the wait before each round, for the time that a plan takes (2 s)")],
+    "page": [("--schedule FILE", "a run of the plan, to be played: of `simulate` or `explain`, or the record of an update"), ("--planner PATH", "the program"),
+             ("--layout graphviz|own", "own: Graphviz isn't used, even where it is there")],
+    "from-ofctl": [("--drop-unsayable", "leaves out entries for other packets than IPv4, and entries of priority 0 that do what a miss does")],
+    "from-mininet": [("--hosts NAME,..", "nodes that are hosts, where the text doesn't show it"), ("--vlans VLAN,..", "the VLANs with which packets of hosts come (untagged)"),
+                     ("--tags FIRST-LAST", "VLAN ids that the planner may use as tags (none)"), ("--capacity N", "how many rules a switch can hold (8192)")],
+    "from-graphml": [("--hosts NAME,..", "the switches that have a host port, by name or id of the node; `all`"),
+                     ("--external switches|hosts", "hosts: nodes that the graph says aren't internal are hosts, and no switches"),
+                     ("--vlans VLAN,..", "the VLANs with which packets of hosts come"), ("--tags FIRST-LAST", "VLAN ids that the planner may use as tags; `none`"),
+                     ("--capacity N", "how many rules each switch can hold"), ("--names labels|ids", "what the switches are named by (labels)"),
+                     ("--distances FILE", "writes the lengths of the links as weights for `route`"), ("--speeds FILE", "writes their speeds so")],
+    "to-ofctl": [("--switches FILE", "where each switch is reached, as for `apply`; otherwise it is a bridge of its name on this machine")],
     "update": [*CONNECTIONS, *CARRYING_OUT, ("--yes", "doesn't ask before the first change"), ("--dry-run", "ends before the first change")],
 }
 # Commands of the program that are newer than some builds of it.
@@ -246,8 +271,8 @@ FRONT_END = (
     "along, in dist/. Where that was built from other sources than those that are there, the front end proves and builds the program first, where it is missing "
     "or older than a source, and says why, and how long that takes.")
 OPTIONS = [
-    ("--help", "Prints the commands in short; behind a command, more of it."),
-    ("--version", "Prints the version, and which program is run: that of dist/, one that was built here, or the installed one."),
+    ("--help", "Prints the commands in short; behind a command, more of it. So do -h, `help` and `help COMMAND`."),
+    ("--version", "Prints the version, and which program is run: that of dist/, one that was built here, or the installed one. So does -V."),
     ("-o FILE", "Writes the answer into FILE, which is there only where the exit status is 0. Another answer goes to the standard output."),
     ("--strict", "Makes warnings exit status 3, with nothing written."),
     ("--quiet", "Says nothing on the error stream but refusals."),
@@ -284,7 +309,7 @@ def help_text():
             lines += [f"  {command.name} {command.usage}"]
             lines += textwrap.wrap(command.answer, 112, initial_indent="      ", subsequent_indent="      ")
     lines += ["", "Options:"]
-    lines += [line for flag, text in OPTIONS for line in textwrap.wrap(f"{flag:<12}{text}", 112, initial_indent="  ", subsequent_indent=" " * 14)]
+    lines += [line for flag, text in OPTIONS for line in textwrap.wrap(f"{flag:<12}{text.replace('`', '')}", 112, initial_indent="  ", subsequent_indent=" " * 14)]
     lines += ["", *textwrap.wrap(SHORT_HANDS.replace("`", ""), 112, break_on_hyphens=False), "", "Exit status:"]
     lines += [f"  {number:<4} {meaning}" for number, meaning in STATUSES]
     return "\n".join(lines) + "\n"
@@ -294,7 +319,8 @@ def command_help(command):
     """The text of `planner COMMAND --help`, for a command of the program."""
     import textwrap
 
-    lines = [f"planner {command.name} {command.usage}", "", *textwrap.wrap(command.text, 112)]
+    own = "".join(f" [{flag}]" for flag, _ in OWN_OPTIONS.get(command.name, []))
+    lines = [f"planner {command.name} {command.usage}{own}", "", *textwrap.wrap(command.text, 112)]
     files = [word for word in command.words()[0] if word in FILES]
     for word in files:
         lines += [""] if word == files[0] else []

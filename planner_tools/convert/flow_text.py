@@ -76,7 +76,7 @@ class TextEntry:
             self.has_pcp = True
         elif name == "nw_dst" and self.type == IPV4:
             self.read_prefix(value)
-        elif name == "nw_src" and self.type == IPV4 and prefix_of(value):
+        elif name == "nw_src" and self.type in (None, IPV4) and prefix_of(value):
             self.sources = prefix_of(value)[1]
         elif name in OTHERS and value and "/" not in value:
             self.others |= 1 << OTHERS[name]

@@ -10,7 +10,7 @@ import struct
 import tempfile
 
 from planner_tools import program
-from planner_tools.convert.common import BAD_FILE, REFUSED, UNREADABLE, Refused, nearest, read_text, run, say
+from planner_tools.convert.common import BAD_FILE, REFUSED, UNREADABLE, WRONG_WORDS, Refused, nearest, read_text, run, say
 from planner_tools.convert.flow_text import FlowText
 from planner_tools.switches.entries import Entry
 
@@ -91,7 +91,8 @@ def read_tables(topology, given, may_drop):
         found[switch] = path
     missing = [name for name in names if name not in found]
     if missing:
-        say(f"note: no file for {', '.join(missing)}: {'its table is' if len(missing) == 1 else 'their tables are'} taken to be empty")
+        raise Refused(f"no file is given for {', '.join(missing)}, and {topology} has {'it' if len(missing) == 1 else 'them'}",
+                      f"give `{missing[0]}=FILE`, or `{missing[0]}=/dev/null` where its table is empty", WRONG_WORDS)
     return [Table(switch, path, may_drop) for switch, path in found.items()]
 
 
@@ -159,7 +160,8 @@ def configuration(topology, tables):
 def convert(words):
     parser = argparse.ArgumentParser(prog="planner from-ofctl", description="Makes a configuration of the text of `ovs-ofctl dump-flows BRIDGE`, and writes it.")
     parser.add_argument("topology", metavar="TOPOLOGY")
-    parser.add_argument("tables", metavar="BRIDGE=FILE", nargs="+", help="a switch of the topology, and the text of its table; - is the standard input")
+    parser.add_argument("tables", metavar="BRIDGE=FILE", nargs="+", help="a switch of the topology, and the text of its table; - is the standard input. Each switch has to be given: one without "
+                        "entries by `SWITCH=/dev/null`")
     parser.add_argument("--drop-unsayable", action="store_true", help="leave out entries for other packets than IPv4, and entries of priority 0 that do what a miss "
                         "does; everything else that can't be said is refused all the same")
     options = parser.parse_args(words)

@@ -7,7 +7,11 @@ import json
 import os
 import shlex
 
-from planner_tools.convert.common import UNWRITABLE, Refused, read_text, run
+from planner_tools import program
+from planner_tools.convert.common import UNWRITABLE, Refused, read_text, run, say
+from planner_tools.proved import beside
+from planner_tools.switches.connections import Stop, address_words, listed_address
+from planner_tools.words import IN_FOLDER
 
 # The command for each change. `ovs-ofctl` waits for the barrier reply of the switch before it ends, and its status tells of an error.
 COMMANDS = {"insert": "add-flow", "replace": "--strict mod-flows", "delete": "--strict del-flows"}
@@ -47,11 +51,33 @@ def command_of(do, rule, targets):
     return f"ovs-ofctl -O OpenFlow10 {COMMANDS[do]} {shlex.quote(targets.get(rule['switch'], rule['switch']))} {shlex.quote(flow)}"
 
 
-def script_of(number, rounds, plan, targets):
+def refused(path):
+    """Why `planner check` refuses a plan, in its words, or None; the files of the update are looked for beside the plan, and in the folder above an update's."""
+    folder = os.path.dirname(path) or "."
+    files = [beside(folder, IN_FOLDER[word]) for word in ("TOPO", "OLD", "NEW", "POLICY")]
+    note = f"{path}: note: whether it is certified wasn't looked at: `planner check TOPO OLD NEW POLICY {path}` says it"
+    if None in files:
+        say(note)
+        return None
+    try:
+        status, text = program.run("check", *files, path)
+    except program.NoProgram:
+        say(note)
+        return None
+    if status == 0:
+        return None
+    said = "; ".join(text.splitlines())
+    say(f"{path}: warning: `planner check` refuses it: {said}. The scripts are written all the same; what holds of a plan that it accepts isn't said of them")
+    return said
+
+
+def script_of(number, rounds, plan, targets, why=None):
     """The script of a round."""
     changes = rounds[number - 1]
     lines = ["#!/bin/sh", f"# Round {number} of {len(rounds)} of {os.path.basename(plan).translate({10: ' ', 13: ' '})}: {len(changes)} changes, in any order.",
-             "# Begin when the round before is done and the packets that entered before that have left; where a command fails, see to it and run this again.", "set -e"]
+             "# Begin when the round before is done and the packets that entered before that have left; where a command fails, see to it and run this again."]
+    lines += [f"# `planner check refuses it`: {why}".replace("`", "")] if why else []
+    lines.append("set -e")
     lines += [command_of(do, rule, targets) for do, rule in changes]
     return "\n".join([*lines, f"echo 'round {number} of {len(rounds)} is done'"]) + "\n"
 
@@ -63,7 +89,10 @@ def read_targets(path):
         words = line.split("#")[0].split()
         if words and not 2 <= len(words) <= 3:
             raise Refused(f"{path}:{number}: not `NAME DATAPATH [HOST:PORT]`")
-        targets |= {words[0]: f"tcp:{words[2]}"} if len(words) == 3 else {}
+        try:
+            targets |= {words[0]: f"tcp:{address_words(listed_address(words[2], f'{path}:{number}'))}"} if len(words) == 3 else {}
+        except Stop as stop:
+            raise Refused(stop.what, stop.then) from None
     return targets
 
 
@@ -91,7 +120,9 @@ def convert(words):
     rounds, targets = rounds_of(options.plan), read_targets(options.switches) if options.switches else {}
     wide = max(2, len(str(len(rounds))))
     try:
-        scripts = [(f"round-{number:0{wide}}.sh", script_of(number, rounds, options.plan, targets)) for number in range(1, len(rounds) + 1)]
+        [script_of(number, rounds, options.plan, targets) for number in range(1, len(rounds) + 1)]
+        why = refused(options.plan)
+        scripts = [(f"round-{number:0{wide}}.sh", script_of(number, rounds, options.plan, targets, why)) for number in range(1, len(rounds) + 1)]
     except (KeyError, TypeError, AttributeError) as fault:
         raise Refused(f"{options.plan}: a change of it can't be read", "`planner check` says what of it can't be read") from fault
     folder = options.folder or f"{os.path.splitext(os.path.basename(options.plan))[0]}-rounds"

@@ -3,6 +3,9 @@ from planner_tools import words
 from planner_tools.manual import flags_of
 
 FLAGS = ("--help", "--version")
+# Options of every command of the program, and of those of the front end that write an answer.
+COMMON = [(flag, text) for flag, text in words.OPTIONS if flag not in FLAGS]
+COMMON_FLAGS = " ".join(["--help", *(flag.split()[0] for flag, _ in COMMON)])
 
 
 def counts():
@@ -45,6 +48,7 @@ _planner() {{
         return
     fi
     if [[ ${{words[CURRENT]}} == -* ]]; then
+        compadd -- {COMMON_FLAGS}
         case ${{words[2]}} in
 {own}
         esac
@@ -71,5 +75,7 @@ def fish():
     lines += [f"complete -c planner -n {quoted('__fish_seen_subcommand_from ' + name)} -l {flag.split()[0].lstrip('-')} -d {quoted(short(text))}"
               for name, options in words.OWN_OPTIONS.items() for flag, text in options]
     lines += [f"complete -c planner -n {quoted('__fish_seen_subcommand_from ' + name)} -a {quoted(' '.join(choices))}" for name, choices in chosen_words().items()]
+    lines += [f"complete -c planner -n {quoted('__fish_seen_subcommand_from ' + names)} {'-l' if flag.startswith('--') else '-o'} {flag.split()[0].lstrip('-')} -d {quoted(short(text))}"
+              for flag, text in [("--help", "more of the command"), *COMMON]]
     lines.append(f"complete -c planner -n {quoted('__fish_seen_subcommand_from ' + with_files)} -F")
     return "\n".join(lines) + "\n"

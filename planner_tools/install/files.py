@@ -26,10 +26,16 @@ def tree(root, built):
             found[f"{LIBRARY}/{path}"] = os.path.join(root, path)
     for path in under(root, "library/planner"):
         found[f"{LIBRARY}/{path}"] = os.path.join(root, path)
-    for path in (*FROM_ROOT, *under(root, "examples"), *(path for path in under(root, "docs") if path.endswith(FROM_DOCS))):
+    for path in (*FROM_ROOT, *under(root, "examples"), *(path for path in under(root, "docs") if path.endswith(FROM_DOCS)), *linked(root)):
         if os.path.exists(os.path.join(root, path)):
             found[f"{DOCUMENTS}/{path}"] = os.path.join(root, path)
     return found
+
+
+def linked(root):
+    """The files that README.md links to."""
+    with open(os.path.join(root, "README.md"), encoding="utf-8") as file:
+        return sorted(path for path in set(re.findall(r"\]\(([^)#]+)", file.read())) if os.path.isfile(os.path.join(root, path)))
 
 
 def made(day, zsh_folder="share/zsh/site-functions"):

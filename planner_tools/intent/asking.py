@@ -6,7 +6,7 @@ import sys
 from planner_tools import network as nets
 from planner_tools import program
 from planner_tools.files import NotJson, read_json
-from planner_tools.proved import Given, Refusals, Run, Stop, inside
+from planner_tools.proved import REFUSALS, Given, Run, Stop, inside
 from planner_tools.voice import Voice
 from planner_tools.words import BY_NAME, Command
 
@@ -16,7 +16,7 @@ WRONG_WORDS, BAD_FILE, UNREAD = 2, 3, 6
 def files_of(name, typed):
     """The files that the words of a command name, by their words in its usage: a folder stands for the names that are left out, `-` for the standard input."""
     usage = re.split(r" \[?--", BY_NAME[name].usage)[0]
-    run = Run([name, *typed], Refusals)
+    run = Run([name, *typed], REFUSALS)
     run.command = Command(name, usage, "", "")
     wanted, least = run.command.words()
     run.resolve()
@@ -36,7 +36,7 @@ def beside(folder, name):
 def asked(command, good=(0,), **files):
     """What the program writes for a command over files, which are given by the words of its usage. Where its status is no good one it is said why, and it is
     Stop."""
-    run = Run([command], Refusals)
+    run = Run([command], REFUSALS)
     run.files = {word: file for word, file in files.items() if file is not None}
     run.passed = [command, *(file.real for file in run.files.values())]
     run.program = program.path()

@@ -389,7 +389,7 @@ class View {
     const tag = this.update.kind !== "two-phase" ? "" : one.what === "go" ? ` [${tagText(this.update, this.position, one.vlan)}]` : `, ${vlanText(one.vlan)}`;
     if (one.what === "go") return `→ ${this.numberedName(to.at, evidence)}${tag}`;
     if (one.what === "leave") return `leaves at port ${one.port}${tag}`;
-    return `drops${place.from === null ? "" : ` what comes in at port ${place.port}`}`;
+    return `drops${place.from === null ? "" : ` what comes in at port ${place.port}`}${backText(one)}`;
   }
 
   stepText(step, evidence) {

@@ -145,7 +145,7 @@ class Update {
 
   carriedOut(rule, at, port, vlan) {
     const end = this.ends[at].get(rule.out), after = rule.rewrite === STRIP ? 0 : rule.rewrite || vlan;
-    if (!rule.out || rule.out === port || !end) return { what: "drop", vlan, rule };
+    if (!rule.out || rule.out === port || !end) return { what: "drop", vlan, rule, back: rule.out === port };
     if (end.host !== undefined) return { what: "leave", at, port: rule.out, vlan: after, rule };
     return { what: "go", out: rule.out, link: end.link, at: end.to, port: end.port, vlan: after, rule };
   }

@@ -15,7 +15,7 @@ from planner_tools import program
 from planner_tools.page.layout import layout
 from planner_tools.page.values import Files
 from planner_tools.page.verdict import Refused, driven, traces, verdict, verdict_of_configuration
-from planner_tools.proved import say_why
+from planner_tools.proved import Names, say_why
 
 HERE = os.path.dirname(os.path.realpath(__file__))
 
@@ -25,7 +25,8 @@ UPDATE, CONFIGURATION = 5, (2, 3)
 
 
 def asked_by(words):
-    parser = argparse.ArgumentParser(prog="planner page", usage="planner page [-h] TOPO OLD NEW POLICY PLAN [--schedule FILE]\n       planner page [-h] TOPO CONFIG [POLICY]",
+    parser = argparse.ArgumentParser(prog="planner page", usage="planner page [-h] TOPO OLD NEW POLICY PLAN [--schedule FILE] [--layout graphviz|own] [--planner PATH]\n"
+                                     "       planner page [-h] TOPO CONFIG [POLICY] [--layout graphviz|own] [--planner PATH]",
                                      description="Writes a page that shows what a plan does; or, without a plan, where packets go under a configuration.")
     parser.add_argument("files", metavar="FILE", nargs="+", help="the network, the rules now, the rules wanted, what packets must do, and the plan, from any source; "
                         "or the network, the rules, and what packets must do")
@@ -53,18 +54,18 @@ def page(values):
     return re.sub("@([A-Z]+)@", lambda place: filled[place[1]], part("page.html"))
 
 
-def values_of(asked):
+def values_of(asked, names):
     planner, paths = asked.planner or program.path(), asked.files
     if len(paths) == UPDATE:
         said, files = verdict(planner, paths), Files(*paths)
-        title = f"{os.path.basename(paths[4])}: what the plan does"
+        title = f"{os.path.basename(names.shown(paths[4]))}: what the plan does"
     else:
         said, files = verdict_of_configuration(planner, paths), Files.of_configuration(*paths)
-        title = f"{os.path.basename(paths[1])}: where packets go"
-    values = {"title": title, "files": paths, "command": "check" if len(paths) == UPDATE else "config", "verdict": said, **files.values(),
+        title = f"{os.path.basename(names.shown(paths[1]))}: where packets go"
+    values = {"title": title, "files": [names.shown(path) for path in paths], "command": "check" if len(paths) == UPDATE else "config", "verdict": said, **files.values(),
               "layout": layout(len(files.names), files.links, files.hosts, asked.layout == "graphviz")}
     if asked.schedule:
-        values["schedule"] = schedule_values(planner, paths, asked.schedule)
+        values["schedule"] = {**schedule_values(planner, paths, asked.schedule), "name": names.shown(asked.schedule)}
     return values
 
 
@@ -97,12 +98,14 @@ def words_of_refused(asked, line):
 
 
 def main(words):
-    asked = asked_by(words)
+    asked, names = asked_by(words), Names()
+    asked.files = [names.real(word) for word in asked.files]
+    asked.schedule = names.real(asked.schedule) if asked.schedule else None
     try:
-        text = page(values_of(asked))
+        text = page(values_of(asked, names))
     except Refused as fault:
         print(fault, file=sys.stderr)
-        say_why(*words_of_refused(asked, str(fault)), good=(0, 1))
+        say_why(*map(names.given, words_of_refused(asked, str(fault))), good=(0, 1))
         return fault.status
     except program.NoProgram as fault:
         print(fault, file=sys.stderr)

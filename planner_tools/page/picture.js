@@ -186,6 +186,7 @@ class Picture {
     const scale = this.onScreen(), isSmall = this.isBeside || this.least * this.unit * scale < READABLE, seen = this.seen(scale);
     this.svg.classList.toggle("small", isSmall);
     if (!isSmall) { this.fill("labels", ""); return; }
+    this.window = this.seen();
     const high = LABEL / scale, boxes = this.places.map(([x, y], at) => this.boxOf(x, y, this.half(Object.assign([x, y], { at })), 15 * this.unit)), taken = [], lines = [];
     for (const at of new Set([...this.first, ...this.places.keys()])) {
       const isFirst = this.first.includes(at), wide = 0.64 * high * this.update.names[at].length;
@@ -227,7 +228,26 @@ class Picture {
     const across = half + gap + wide / 2, down = halfHigh + gap + high / 2, near = 0.6;
     const sides = [-1, 0, 1].flatMap((right) => [-1, 0, 1].map((low) => [right * across, low * down * (right ? near : 1)])).filter(([dx, dy]) => dx || dy);
     const outward = ([dx, dy]) => ((x - this.layout.width / 2) * dx + (y - this.layout.height / 2) * dy) / Math.hypot(dx, dy);
-    return sides.sort((a, b) => outward(b) - outward(a)).map(([dx, dy]) => this.boxOf(x + dx, y + dy, wide / 2, high / 2));
+    const boxes = sides.sort((a, b) => outward(b) - outward(a)).map(([dx, dy]) => this.boxOf(x + dx, y + dy, wide / 2, high / 2));
+    return [...boxes.filter((box) => this.isInside(box)), ...boxes.filter((box) => !this.isInside(box)).map((box) => this.movedInside(box))];
+  }
+
+  // What is seen of the picture: the view, and what lies beside it where the place for it has another form.
+  seen() {
+    const box = this.svg.getBoundingClientRect(), scale = this.onScreen(), [left, top, width, height] = this.view || [0, 0, this.layout.width, this.layout.height];
+    const wide = Math.max(width, box.width / scale), high = Math.max(height, box.height / scale);
+    return { left: left + (width - wide) / 2, right: left + (width + wide) / 2, top: top + (height - high) / 2, low: top + (height + high) / 2 };
+  }
+
+  isInside(box) {
+    const seen = this.window;
+    return box.left >= seen.left && box.top >= seen.top && box.right <= seen.right && box.low <= seen.low;
+  }
+
+  // A box moved so far that none of it is cut off at the edge of what is seen.
+  movedInside({ left, right, top, low }) {
+    const seen = this.window, dx = Math.max(0, seen.left - left) + Math.min(0, seen.right - right), dy = Math.max(0, seen.top - top) + Math.min(0, seen.low - low);
+    return { left: left + dx, right: right + dx, top: top + dy, low: low + dy };
   }
 
   // Fills a part of the picture, unless it is as it was.
@@ -257,8 +277,9 @@ class Picture {
   entry({ entry }) {
     if (entry === null) return "";
     const [at, port] = this.update.hosts[entry], points = [...this.line(at, port)].reverse(), [x, y] = this.hostPlaces[entry];
+    const half = 30 * this.unit, inside = Math.max(half, Math.min(this.layout.width - half, x));
     return this.path(this.between(points, 8, 15), `class="entry" stroke="${COLOURS.ink}" stroke-width="${this.width(3)}" marker-end="url(#mink)"`)
-      + this.text(x, y + (y > this.places[at][1] ? 18 : -11) * this.unit, "enter here", 10.5, `font-style="italic" fill="${COLOURS.ink}" stroke="${COLOURS.paper}" stroke-width="${this.width(3)}" paint-order="stroke"`);
+      + this.text(inside, y + (y > this.places[at][1] ? 18 : -11) * this.unit, "enter here", 10.5, `font-style="italic" fill="${COLOURS.ink}" stroke="${COLOURS.paper}" stroke-width="${this.width(3)}" paint-order="stroke"`);
   }
 
   step({ place, one }, shown) {

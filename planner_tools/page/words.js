@@ -71,9 +71,12 @@ function shortened(names, most = 24) {
 
 function endText(update, end) {
   if (end.what === "leave") return `leaves at ${update.names[end.at]}:${end.port}`;
-  if (end.what === "drop") return `dropped by ${update.names[end.from]}`;
+  if (end.what === "drop") return `dropped by ${update.names[end.from]}${backText(end)}`;
   return `comes to ${update.names[end.at]} again`;
 }
+
+// Why a packet is dropped whose rule has an output: OpenFlow 1.0 sends nothing back by an ordinary output.
+function backText(one) { return one.back ? ": its output is the port it came in by" : ""; }
 
 function pathText(update, path) { return `${shortened(path.places.map((it) => update.names[it.at]))}, ${endText(update, path.end)}`; }
 
@@ -123,7 +126,7 @@ function badSteps(update, walk) {
     if (!one) return `The packet is at ${name(place.at)} again.`;
     const by = `${name(place.at)}${whenWords(one.when)}`;
     if (one.what === "leave") return `${by} sends it out of the network at port ${one.port}.`;
-    if (one.what === "drop") return `${by} drops it.`;
+    if (one.what === "drop") return `${by} drops it${backText(one)}.`;
     const carrying = one.vlan === place.vlan ? "" : one.vlan === 0 ? ", without a tag" : `, with tag ${one.vlan}`;
     return `${by} sends it to ${name(one.at)}${carrying}.`;
   });

@@ -179,7 +179,7 @@ class Update(Comparison):
             return f"make a plan that `planner check` accepts; nothing can be done with {self.options.plan}"
         if status == 3:
             return f"correct that file, docs/FORMATS.md has every refusal; then {go_on}"
-        return f"see that the program can run: `{' '.join(['planner serve', *self.files])} < {self.options.input}`; then {go_on}"
+        return f"see that the program can run: `{' '.join([program.typed(), 'serve', *self.files])} < {self.options.input}`; then {go_on}"
 
     def failed_session(self, name, cause):
         """The end after a failed session: its cause in words, what was refused, and how the update is taken up."""
@@ -252,7 +252,7 @@ def note_end(update, options, words):
 def typed(words, then):
     """The command that does what is next, as it can be typed, behind the words that say it."""
     found = MODES.search(then)
-    return f" (`{shlex.join(['planner', 'apply', *(word for word in words if word not in MODE_WORDS), *found[0].split()])}`)" if found else ""
+    return f" (`{shlex.join([program.typed(), 'apply', *(word for word in words if word not in MODE_WORDS), *found[0].split()])}`)" if found else ""
 
 
 def other_ways(update, options, then):

@@ -149,7 +149,7 @@ class Reading:
     def __init__(self, name, flow, extended):
         self.name, self.lines, self.faults = name, [], []
         self.of_update = []          # those of the faults that speak of entries as a two-phase plan makes them
-        self.tests, self.untagged, self.left_out = [], 0, {}
+        self.tests, self.untagged, self.left_out, self.cookies, self.is_to_controller = [], 0, {}, 0, False
         try:
             for reply in flow:
                 kept = b"".join(self.keep(Entry(data)) for data in cut_entries(reply[12:], 88))
@@ -160,6 +160,8 @@ class Reading:
             self.faults.append(f"{name}: entries don't fill its statistics")
         remarks = [f"# {name}: left out {count} entries {why}; they take room beside the capacity" for why, count in self.left_out.items()]
         remarks += [f"# {name}: a test of the priority of the tag was taken from {self.untagged} entries for untagged packets"] if self.untagged else []
+        remarks += [f"# {name}: what no entry takes is sent to the controller"] if self.is_to_controller else []
+        remarks += [f"# {name}: {self.cookies} of its entries have a cookie"] if self.cookies else []
         remarks += [f"# {name}: it has no extended statistics, and is taken at its word"] if extended is None else []
         self.lines = remarks + self.lines
 
@@ -168,12 +170,14 @@ class Reading:
         why = entry.without_effect()
         if why:
             self.left_out[why] = self.left_out.get(why, 0) + 1
+            self.is_to_controller |= why == "for a miss" and bool(entry.actions)
         elif entry.fault():
             self.faults.append(f"{self.name}: {entry}: {entry.fault()}")
             self.of_update += self.faults[-1:] if entry.priority > LAST_PRIORITY and not entry.oddity() else []
         else:
             self.tests.append(entry.test())
             self.untagged += entry.has_tag_priority()
+            self.cookies += entry.cookie != 0
             return entry.normalised()
         return b""
 

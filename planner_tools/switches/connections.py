@@ -46,7 +46,7 @@ def read_switches(path, topology):
                 continue
             try:
                 name, datapath = words[0], int(words[1], 16)
-                address = host_and_port(words[2]) if len(words) == 3 else None
+                address = listed_address(words[2], f"{path}, line {number}") if len(words) == 3 else None
                 good = len(words) <= 3 and len(words[1]) == 16 and name in declared and name not in listed
             except (IndexError, ValueError):
                 good = False
@@ -82,8 +82,36 @@ def declared_switches(topology):
 
 
 def host_and_port(text):
+    """The host and the port of `HOST:PORT`, `[ADDRESS]:PORT` for an address of IPv6, and these behind `tcp:`, as Open vSwitch writes them; ValueError where it is none.
+    A port alone is one of all addresses of this machine."""
+    text = text.removeprefix("tcp:") if text.count(":") > 1 else text
     host, _, port = text.rpartition(":")
-    return host, int(port)
+    if ":" in host and not (host.startswith("[") and host.endswith("]")) or not 0 < int(port) < 1 << 16:
+        raise ValueError(text)
+    return host.removeprefix("[").removesuffix("]"), int(port)
+
+
+def listed_address(text, where):
+    """The address of a switch in a file of switches."""
+    kind = text.partition(":")[0]
+    if kind in ("ssl", "pssl", "unix", "punix"):
+        raise Stop(f"{where}: {text}: the connection is made over TCP alone, and not by {kind}", "let the switch listen by `ptcp:PORT`, and write HOST:PORT")
+    if kind == "ptcp":
+        raise Stop(f"{where}: {text} is what the switch does; here stands where it is reached", f"write HOST:{text.split(':')[1]}")
+    if text.isdigit():
+        raise Stop(f"{where}: {text} is a port without a host", f"write HOST:{text}")
+    try:
+        return host_and_port(text)
+    except ValueError:
+        bracketed = text.rpartition(":")
+        hint = f", as [{bracketed[0]}]:{bracketed[2]}" if text.count(":") > 1 else ""
+        raise Stop(f"{where}: {text} isn't HOST:PORT", f"write the host and a port from 1 to 65535{hint}; an address of IPv6 stands in brackets") from None
+
+
+def address_words(address):
+    """A host and a port as they are written."""
+    host, port = address
+    return f"[{host}]:{port}" if ":" in host else f"{host}:{port}"
 
 
 class Connection:
@@ -179,12 +207,18 @@ class Switches:
         self.due = {name: 0.0 for name, (_, address) in listed.items() if address is not None}
         self.tried = {}          # how the last try to reach a switch failed
         self.strangers = {}      # by host: why a connection from there was closed that didn't say which switch it is
+        away = [name for name, (_, address) in listed.items() if address is None]
+        if listen is None and away:
+            raise Stop(f"{', '.join(away)} {'has' if len(away) == 1 else 'have'} no address in the file of switches, and no --listen is given, where switches without one connect to",
+                       "write where it listens, HOST:PORT, behind its datapath id; or give --listen HOST:PORT")
         if listen is not None:
             try:
-                listener = socket.create_server(listen)
+                listener = socket.create_server(listen, family=socket.AF_INET6 if ":" in listen[0] else socket.AF_INET)
             except OSError as fault:
-                raise Stop(f"can't listen at {listen[0]}:{listen[1]}: {fault.strerror or fault}",
+                raise Stop(f"can't listen at {address_words(listen)}: {fault.strerror or fault}",
                            "see whether another run is at work there, or give --listen another port, and the switches too") from None
+            if listen[0] in ("", "0.0.0.0", "::"):
+                progress(f"listening at every address of this machine, port {listen[1]}: whoever reaches it can connect; --listen HOST:PORT names one address")
             listener.setblocking(False)
             self.selector.register(listener, selectors.EVENT_READ, None)
 
@@ -212,7 +246,7 @@ class Switches:
             self.tried[name] = os.strerror(state)
             sock.close()
             return
-        self.add(Connection(sock, "%s:%d" % address, name, is_made=state == 0))
+        self.add(Connection(sock, address_words(address), name, is_made=state == 0))
 
     def add(self, connection):
         connection.awaited = connection.events()
@@ -248,7 +282,7 @@ class Switches:
             sock, peer = listener.accept()
         except OSError:
             return           # it went away before it was taken
-        self.add(Connection(sock, "%s:%d" % peer[:2]))
+        self.add(Connection(sock, address_words(peer[:2])))
 
     def look(self, one, events):
         if events & selectors.EVENT_WRITE:

@@ -181,7 +181,7 @@ class Conversation:
         waited = now - self.since[name]
         if waited > self.options.patience + (min(self.options.wait, STANDS) if self.core.begun else 0):
             raise Stop(f"the patience of {self.options.patience:g} s is at its end: {name} {self.why_awaited(name)}", f"see that {name} is connected and answers; then go on with --resume")
-        if now - self.told > self.options.patience / TOLD:
+        if min(waited, now - self.told) > self.options.patience / TOLD:
             self.told = now
             progress(f"{waited:.0f} s: {self.state()}")
 

@@ -13,6 +13,11 @@ UNTAGGED = 0xFFFF
 SPECIAL_PORTS = {0xFFF8: "IN_PORT", 0xFFF9: "TABLE", 0xFFFA: "NORMAL", 0xFFFB: "FLOOD", 0xFFFC: "ALL", 0xFFFD: "CONTROLLER", 0xFFFE: "LOCAL"}
 ACTIONS = {3: "strip VLAN", 11: "enqueue", 0xFFFF: "vendor action"}
 OTHER_FIELDS = {2: "dl_src", 3: "dl_dst", 5: "nw_proto", 6: "tp_src", 7: "tp_dst", 21: "nw_tos"}     # by their bit of `wildcards`
+# The priority of an entry that was added without one.
+DEFAULT_PRIORITY = 32768
+DEFAULT_WORDS = ": 32768 is what `ovs-ofctl add-flow` takes where no priority is given; add it again with one, and then take this one away"
+STANDALONE = ("it is the default entry of a switch in standalone mode, NORMAL: put entries of your own in first, and then take it away alone, by a strict command; "
+              "`planner adopt` does so. (Setting the fail mode empties the table.)")
 TO_CONTROLLER = bytes.fromhex("00000008fffd")
 TO_NORMAL = bytes.fromhex("00000008fffa")
 
@@ -89,11 +94,11 @@ class Entry:
     def fault(self):
         """What of it a configuration can't say, in words, or None."""
         if self.table == 0 and not self.is_exact(4) and self.priority == 0 and self.actions[:6] == TO_NORMAL:
-            return "it is the default entry of a switch in standalone mode: set the fail mode to secure, and delete it"
+            return STANDALONE
         if self.oddity():
             return self.oddity()
         if not 1 <= self.priority <= 16383:
-            return "its priority isn't 1 to 16383"
+            return f"its priority isn't 1 to 16383{DEFAULT_WORDS if self.priority == DEFAULT_PRIORITY else ''}"
         if self.time_words():
             return self.time_words()
         if self.actions and not (len(self.actions) == 8 and self.actions[:4] == bytes.fromhex("00000008") and 1 <= int.from_bytes(self.actions[4:6], "big") <= 65279):
@@ -143,6 +148,7 @@ def action_words(actions):
 
 
 # Headers of the fields of an extended match that an entry of OpenFlow 1.0 has too.
+SOURCE_MASKED = 0x0F08
 IN_PORT, TYPE, TAG, TAG_MASKED, DESTINATION, DESTINATION_MASKED = 0x002, 0x602, 0x802, 0x904, 0x1004, 0x1108
 # Those that a configuration can't say, but OpenFlow 1.0 can: the other statistics show them truly, and they are refused there.
 SHOWN = {0x206, 0x406, 0xA01, 0xC01, 0xE04, 0x1202, 0x1402, 0x1602, 0x1802, 0x1A01, 0x1C01}
@@ -182,7 +188,7 @@ class ExtendedEntry:
             self.base, self.length = number, 32
         elif header == DESTINATION_MASKED and number & 0xFFFFFFFF in PREFIX_MASKS:
             self.base, self.length = number >> 32, (number & 0xFFFFFFFF).bit_count()
-        elif header in SHOWN or header == TAG and number & 0x1000:     # this one has a tag priority
+        elif header in SHOWN or header == TAG and number & 0x1000 or header == SOURCE_MASKED and number & 0xFFFFFFFF in PREFIX_MASKS:     # a tag has a tag priority
             self.others.append(f"{field_name(header)} {value.hex()}")
         else:
             self.widened.append(f"{field_name(header)} {value.hex()}")

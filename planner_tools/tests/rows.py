@@ -47,7 +47,8 @@ class Row:
 
     def run(self, program, folder):
         """Runs a program in the folder with the words: its status, its text, and what it says."""
-        done = subprocess.run([program, *self.words], cwd=folder, input=self.input, capture_output=True, timeout=SECONDS, check=False)
+        path = os.pathsep.join([ROOT, os.environ.get("PATH", "")])
+        done = subprocess.run([program, *self.words], cwd=folder, input=self.input, capture_output=True, timeout=SECONDS, check=False, env={**os.environ, "PATH": path})
         return done.returncode, done.stdout, done.stderr.decode()
 
 

@@ -27,6 +27,7 @@ from planner_tools.intent import diff
 from planner_tools.proved import How, answer_for, look, say_why
 from planner_tools.switches import apply, collect, connections, ends, under_way
 from planner_tools.switches.connections import host_and_port, progress, say
+from planner_tools.update.meanwhile import meanwhile
 from planner_tools.update.summary import summary
 from planner_tools.voice import TELLING
 
@@ -177,10 +178,12 @@ class Update:
                 raise Stopped("the files", f"{self.path(name)}.json can't be written: {fault.strerror}", "make room, and begin again", UNWRITABLE) from fault
 
     def show(self, plan):
-        """Shows what the plan does: entry by entry where somebody is asked or only looks, in a summary, and what changes for whom."""
+        """Shows what the plan does: entry by entry where somebody is asked or only looks, in a summary, what changes for whom, and what is to be known of
+        packets outside of the model and of cookies."""
         tell = progress if self.options.yes or self.options.dry_run else say
         whom = diff.summary(self.files["topology"], self.path("old.json"), self.files["new"], self.files["policy"])
-        for line in [*([] if self.options.yes else self.entries(plan)), *summary(plan, self.switches, None if self.options.ask else self.options.wait), *whom]:
+        told = [*summary(plan, self.switches, None if self.options.ask else self.options.wait), *whom, *self.meanwhile(plan)]
+        for line in [*([] if self.options.yes else self.entries(plan)), *told]:
             tell(line)
 
     def entries(self, plan):
@@ -188,6 +191,11 @@ class Update:
         network, rules = nets.Network(read_json(self.files["topology"])), nets.plain(read_json(self.path("old.json")).root)["rules"]
         lines = show.plan_lines(self.path("plan.json"), show.plan_values(plan, rules, network, self.options.wait), network, rules)
         return [line for line in lines if not (self.options.ask and line.startswith("time: "))] + [""]
+
+    def meanwhile(self, plan):
+        """What is to be known of packets outside of the model, and of cookies."""
+        with open(self.path("old.json"), encoding="utf-8") as old, open(self.path("replies"), encoding="ascii") as replies:
+            return meanwhile(plan, json.load(old)["rules"], replies.read())
 
     def see_that_it_is_heard(self):
         if TELLING.fault is not None:
@@ -210,7 +218,7 @@ class Update:
         """The words of `planner apply` for this update, or for the files and the record of another one."""
         files = files or [self.path(f"{name}.json") for name in ("topology", "old", "new", "policy", "plan")]
         wait = ["--ask"] if self.options.ask else ["--wait", f"{self.options.wait:g}"]
-        return ["planner", "apply", *files, record or self.path("record"), *self.connection_words(), *wait, "--patience", f"{self.options.patience:g}"]
+        return [program.typed(), "apply", *files, record or self.path("record"), *self.connection_words(), *wait, "--patience", f"{self.options.patience:g}"]
 
     def apply_line(self, files, record):
         return shlex.join(self.apply_words(files, record))

@@ -13,12 +13,14 @@ from converting import DATA, EXAMPLES, planner
 
 SQUARE = EXAMPLES / "square" / "topology.json"
 # An entry with counts, as a bridge prints it.
+EMPTY = ["s2=/dev/null", "s3=/dev/null", "s4=/dev/null"]
 COUNTS = " cookie=0x0, duration=1.3s, table=0, n_packets=0, n_bytes=0, idle_age=1, "
 
 
 class FromOfctl(unittest.TestCase):
     def converted(self, text, *more, bridge="s1"):
-        return planner("from-ofctl", SQUARE, f"{bridge}=-", *more, given=text)
+        others = [f"{name}=/dev/null" for name in ("s1", "s2", "s3", "s4") if name != bridge]
+        return planner("from-ofctl", SQUARE, f"{bridge}=-", *others, *more, given=text)
 
     def rules(self, text, *more):
         status, made, said = self.converted(text, *more)
@@ -40,7 +42,8 @@ class FromOfctl(unittest.TestCase):
             "dl_type=0x88cc": "it is for no IPv4 packet: --drop-unsayable leaves it out",
             "dl_type=0x05ff": "it is for no IPv4 packet: --drop-unsayable leaves it out",
             "mpls": "it is for no IPv4 packet: --drop-unsayable leaves it out",
-            " ip,nw_dst=10.7.0.0/16": "its priority isn't 1 to 16383",
+            " ip,nw_dst=10.7.0.0/16": "its priority isn't 1 to 16383: 32768 is what `ovs-ofctl add-flow` takes where no priority is given; add it again with one, and then take "
+                                      "this one away",
             "priority=113,": "its actions are neither none nor one output to a port",
             "mod_vlan_vid": "its actions are neither none nor one output to a port",
             "strip_vlan": "its actions are neither none nor one output to a port",
@@ -76,7 +79,8 @@ class FromOfctl(unittest.TestCase):
             "dl_src": "it tests dl_src",
             "nw_src": "it tests nw_src",
             "10.0.7.0/255.0.255.0": "it tests nw_dst=10.0.7.0/255.0.255.0, which OpenFlow 1.0 can't say",
-            "priority=0 actions=NORMAL": "it is the default entry of a switch in standalone mode: set the fail mode to secure, and delete it",
+            "priority=0 actions=NORMAL": "it is the default entry of a switch in standalone mode, NORMAL: put entries of your own in first, and then take it away alone, by a strict command; `planner adopt` "
+                                        "does so. (Setting the fail mode empties the table.)",
             "table=1": "it stands in table 1",
         }
         left = dict(faults)
@@ -171,14 +175,14 @@ class FromOfctl(unittest.TestCase):
 
     def test_bridges_and_files(self):
         for words, status, part in ((("s11=-",), 2, "has no switch s11 (did you mean s1?)"), (("s1",), 2, "'s1' isn't BRIDGE=FILE"), (("s1=-", "s1=-"), 2, "s1 is given twice"),
-                                    (("s1=/none",), 6, "/none: it can't be read: No such file or directory")):
+                                    (("s1=-",), 2, "no file is given for s2, s3, s4, and "), (("s1=-", "s2=-", "s4=-"), 2, "give `s3=FILE`, or `s3=/dev/null` where its table is empty"),
+                                    (("s1=/none", *EMPTY), 6, "/none: it can't be read: No such file or directory")):
             with self.subTest(words):
                 found, made, said = planner("from-ofctl", SQUARE, *words, given="")
                 self.assertEqual((found, made), (status, ""))
                 self.assertIn(part, said)
-        self.assertEqual(planner("from-ofctl", SQUARE.parent, "s1=-", given="")[:2], (0, '{"rules":[]}\n'))
+        self.assertEqual(planner("from-ofctl", SQUARE.parent, "s1=-", *EMPTY, given="")[:2], (0, '{"rules":[]}\n'))
         _, _, said = self.converted("NXST_FLOW reply (xid=0x4):\n")
-        self.assertIn("note: no file for s2, s3, s4: their tables are taken to be empty", said)
         self.assertIn("there is no entry in it", said)
 
 
@@ -227,8 +231,26 @@ class ToOfctl(unittest.TestCase):
             file.write("s1 00000000000000a1 127.0.0.1:6653\ns3 00000000000000a3\n")
             file.flush()
             [first, second] = self.scripts(EXAMPLES / "square" / "plan.json", "--switches", file.name)
+            file.write("s1 00000000000000a1 tcp:[::1]:6653\n")
+            file.seek(0)
+            [third, _] = self.scripts(EXAMPLES / "square" / "plan.json", "--switches", file.name)
         self.assertIn(" tcp:127.0.0.1:6653 ", first.read_text())
         self.assertIn(" s3 ", second.read_text())
+        self.assertIn(" 'tcp:[::1]:6653' ", third.read_text())
+
+    def test_a_plan_that_check_refuses_is_said_to_be_such(self):
+        """Where the files of the update stand beside the plan. The scripts are written all the same."""
+        with tempfile.TemporaryDirectory() as folder:
+            rounds = pathlib.Path(folder, "rounds")
+            status, made, said = planner("to-ofctl", EXAMPLES / "square" / "plan-at-once.json", rounds)
+            self.assertEqual((status, len(made.splitlines())), (0, 1))
+            self.assertIn("plan-at-once.json: warning: `planner check` refuses it: refused: 7 NotLower round 1 at s1:1 untagged 10.0.0.0 switch s3", said)
+            self.assertIn("check refuses it", next(rounds.iterdir()).read_text())
+            alone = pathlib.Path(folder, "plan.json")
+            alone.write_text((EXAMPLES / "square" / "plan.json").read_text())
+            status, made, said = planner("to-ofctl", alone, pathlib.Path(folder, "more"))
+            self.assertEqual((status, len(made.splitlines())), (0, 2))
+            self.assertIn(f"note: whether it is certified wasn't looked at: `planner check TOPO OLD NEW POLICY {alone}` says it", said)
 
     def test_a_folder_with_files_isn_t_touched(self):
         with tempfile.TemporaryDirectory() as folder:

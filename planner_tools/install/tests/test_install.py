@@ -12,7 +12,7 @@ ROOT = pathlib.Path(__file__).resolve().parents[3]
 sys.path[:0] = [str(ROOT), str(ROOT / "planner_tools" / "tests")]
 
 import test_shipped  # noqa: E402
-from planner_tools import program, shipped, words  # noqa: E402
+from planner_tools import manual, program, shipped, words  # noqa: E402
 from planner_tools.install import completions, toolchain  # noqa: E402
 from planner_tools.version import VERSION  # noqa: E402
 
@@ -135,6 +135,14 @@ class Install(Installed):
         self.check_files(self.folder / "empty" / "usr")
         self.check_runs(self.folder / "empty" / "usr", self.folder)
 
+    def test_what_the_readme_links_to_is_there(self):
+        done = run(sys.executable, "-B", ROOT / "planner", "install", self.folder, env={**os.environ, "PLANNER": program.path()})
+        self.assertEqual(done.returncode, 0, done.stderr)
+        documents = self.folder / "share" / "doc" / "planner"
+        links = re.findall(r"\]\(([^)#]+)", (documents / "README.md").read_text())
+        self.assertLess(15, len(links))
+        self.assertEqual([], [link for link in links if not re.match(r"\w+:", link) and not (documents / link).exists()])
+
     @unittest.skipUnless(shutil.which("man"), "no man on this machine")
     def test_manual_pages_are_set_without_a_warning(self):
         done = run(sys.executable, "-B", ROOT / "planner", "install", self.folder, env={**os.environ, "PLANNER": program.path()})
@@ -149,6 +157,26 @@ class Completions(unittest.TestCase):
         for text in (completions.zsh(), completions.fish()):
             for command in words.COMMANDS:
                 self.assertIn(f"'{command.name}", text)
+
+    def test_each_knows_every_option_of_every_command(self):
+        """The options of the front end's commands are those that their own help names, and those of all commands that `planner --help` names."""
+        from planner_tools.main import MODULES
+        everywhere = {flag.split()[0] for flag, _ in words.OPTIONS}
+        texts = {"bash": manual.completion(), "zsh": completions.zsh(), "fish": completions.fish()}
+        for command in MODULES:
+            help_text = run(sys.executable, "-B", ROOT / "planner", command, "--help").stdout
+            options = set(re.findall(r"(?<![\w-])--[a-z][a-z-]*", help_text.partition("options:")[2])) - {"--help"}
+            options |= set(re.findall(r"(?<![\w-])--[a-z][a-z-]*", help_text.partition("options:")[0].partition("usage:")[2].partition("\n\n")[0])) - {"--help"}
+            self.assertEqual(options - everywhere, {flag.split()[0] for flag, _ in words.OWN_OPTIONS.get(command, [])}, command)
+        for command, options in words.OWN_OPTIONS.items():
+            for flag in (one.split()[0] for one, _ in options):
+                self.assertRegex(texts["bash"], rf'(?m)^ *{command}\) options="[^"]*{flag}[ "]')
+                self.assertRegex(texts["zsh"], rf"(?m)^ *{command}\) compadd -- .*{flag}( |$)")
+                self.assertRegex(texts["fish"], rf"(?m)__fish_seen_subcommand_from {command}' -l {flag[2:]} ")
+        for flag in ("-o", "--strict", "--quiet", "--json", "--help"):
+            for shell in ("bash", "zsh"):
+                self.assertRegex(texts[shell], rf"[ \"]{flag}[ \"\n]", shell)
+            self.assertRegex(texts["fish"], rf"-[lo] {flag.lstrip('-')} -d", flag)
 
     @unittest.skipUnless(shutil.which("zsh"), "no zsh on this machine")
     def test_zsh_reads_it(self):

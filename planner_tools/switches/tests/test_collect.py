@@ -75,7 +75,7 @@ class Collecting(unittest.TestCase):
     def test_what_a_configuration_can_t_say_is_refused_in_words(self):
         bad = [
             ("the default entry of a switch in standalone mode", entry(wildcards=0x003820FF, kind=0, priority=0, actions="00000008fffa0000")),
-            ("its priority isn't 1 to 16383", entry(priority=32768)),
+            ("its priority isn't 1 to 16383: 32768 is what `ovs-ofctl add-flow` takes where no priority is given", entry(priority=32768)),
             ("it goes away by itself (idle timeout 30 s, hard timeout 60 s)", entry(idle=30, hard=60)),
             ("it stands in table 1", entry(table=1)),
             ("it stands in table 2", entry(table=2, kind=0x0806)),
@@ -110,6 +110,14 @@ class Collecting(unittest.TestCase):
             with self.subTest(words):
                 self.is_refused(f"s1: an entry of priority 100 tests {words}", [entry()], [extended(fields)])
 
+    def test_a_source_is_no_test_that_openflow_1_0_can_t_say(self):
+        for field in ("00000e04" "0a000001", "00000f08" "0a000000" "ff000000"):
+            run, _ = self.reading([entry(wildcards=0x003200EF)], [extended(TYPE + field + PREFIX)])
+            self.assertEqual(run.returncode, 1)
+            self.assertIn("it tests nw_src", run.stderr)
+            self.assertNotIn("can't say:", run.stderr)
+        self.is_refused("s1: an entry of priority 100 tests nw_src with a mask", [entry()], [extended(TYPE + "00000f08" "0a000000" "ff00ff00" + PREFIX)])
+
     def test_two_statistics_that_differ_are_refused(self):
         self.is_refused("its two statistics differ", [entry()], [extended(TYPE + PREFIX, priority=99)])
         self.is_refused("its two statistics differ", [entry()], [])
@@ -143,7 +151,7 @@ class Collecting(unittest.TestCase):
         net = Network(self, "square")
         good = net.listed.read_text()
         for words, text in [("line 1: not", "s9" + good[2:]), ("line 1: not", good.replace("00a1", "a1")), ("line 5: not", good + good[:20]),
-                            ("line 2: not", good.replace("a2", "a1")), ("has no line for s4", good.replace("s4", "# s4")), ("line 1: not", good.replace("a1\n", "a1 here\n"))]:
+                            ("line 2: not", good.replace("a2", "a1")), ("has no line for s4", good.replace("s4", "# s4")), ("line 1: here isn't HOST:PORT", good.replace("a1\n", "a1 here\n"))]:
             with self.subTest(words):
                 net.listed.write_text(text)
                 run = net.collect()

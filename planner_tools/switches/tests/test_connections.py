@@ -8,7 +8,7 @@ import unittest
 
 import fake_switch
 from planner_tools.switches import openflow
-from planner_tools.switches.connections import Stop, Switches
+from planner_tools.switches.connections import Stop, Switches, address_words, host_and_port, listed_address
 
 HELLO_13 = bytes.fromhex("0400001000000001" "0001000800000010")
 ERROR_13 = bytes.fromhex("0401000c00000001" "00000000")
@@ -29,6 +29,52 @@ class Versions(unittest.TestCase):
         for piece, words in cases:
             with self.subTest(piece.hex()):
                 self.assertEqual(openflow.other_version(piece), words)
+
+
+class Addresses(unittest.TestCase):
+    """Where switches are said to listen, and where the controller listens."""
+
+    def test_the_forms_of_an_address(self):
+        for text, wanted in (("h:6653", ("h", 6653)), ("10.0.0.1:6653", ("10.0.0.1", 6653)), ("[::1]:6653", ("::1", 6653)), ("tcp:10.0.0.1:6653", ("10.0.0.1", 6653)),
+                             ("tcp:[fe80::1]:6653", ("fe80::1", 6653)), ("6653", ("", 6653))):
+            self.assertEqual(wanted, host_and_port(text), text)
+        for text in ("h", "h:", "h:x", "h:0", "h:65536", "::1:6653", "fe80::1"):
+            self.assertRaises(ValueError, host_and_port, text)
+        self.assertEqual(["h:1", "[::1]:1"], [address_words(one) for one in (("h", 1), ("::1", 1))])
+
+    def test_what_is_no_address_of_a_switch_is_said(self):
+        for text, what, then in (("ssl:10.0.0.1:6653", "the connection is made over TCP alone, and not by ssl", "let the switch listen by `ptcp:PORT`"),
+                                 ("ptcp:6653", "ptcp:6653 is what the switch does", "write HOST:6653"), ("6653", "6653 is a port without a host", "write HOST:6653"),
+                                 ("::1:6653", "::1:6653 isn't HOST:PORT", "as [::1]:6653"), ("h:port", "h:port isn't HOST:PORT", "a port from 1 to 65535"),
+                                 ("unix:/run/s1.sock", "and not by unix", "let the switch listen")):
+            with self.subTest(text), self.assertRaises(Stop) as stop:
+                listed_address(text, "switches, line 1")
+            self.assertIn(f"switches, line 1: {text}", stop.exception.what)
+            self.assertIn(what, stop.exception.what)
+            self.assertIn(then, stop.exception.then)
+
+    def test_a_switch_without_an_address_and_nowhere_to_connect_to(self):
+        with self.assertRaises(Stop) as stop:
+            Switches({"s1": (0xA1, ("127.0.0.1", 1)), "s2": (0xA2, None), "s3": (0xA3, None)}, None, 3600.0)
+        self.assertEqual("s2, s3 have no address in the file of switches, and no --listen is given, where switches without one connect to", stop.exception.what)
+
+    def test_it_is_said_that_it_listens_everywhere(self):
+        for address, is_said in ((("", 0), True), (("0.0.0.0", 0), True), (("127.0.0.1", 0), False)):
+            said = io.StringIO()
+            with self.subTest(address), contextlib.redirect_stderr(said):
+                Switches({"s1": (0xA1, None)}, address).close()
+                self.assertEqual(is_said, "listening at every address of this machine" in said.getvalue())
+
+    def test_a_switch_that_is_reached_by_ipv6(self):
+        try:
+            with socket.create_server(("::1", 0), family=socket.AF_INET6) as server, contextlib.redirect_stderr(io.StringIO()):
+                switches = Switches({"s1": (0xA1, listed_address(f"[::1]:{server.getsockname()[1]}", "switches"))})
+                self.addCleanup(switches.close)
+                switches.poll(0.01)
+                server.settimeout(60)
+                server.accept()[0].close()
+        except OSError as fault:
+            self.skipTest(f"this machine has no IPv6: {fault}")
 
 
 class Connecting(unittest.TestCase):

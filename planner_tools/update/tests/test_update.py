@@ -7,6 +7,7 @@ import re
 import shlex
 import shutil
 import signal
+import struct
 import subprocess
 import sys
 import time
@@ -15,7 +16,11 @@ import unittest
 sys.path.insert(0, str(pathlib.Path(__file__).resolve().parents[2] / "switches" / "tests"))
 
 from network import EXAMPLES, FRONT_END, LONGEST, PLANNER, Network, heed_interrupts  # noqa: E402
-from planner_tools.update import summary  # noqa: E402
+import fake_switch  # noqa: E402
+from planner_tools.update import meanwhile, summary  # noqa: E402
+
+# The lines that are printed to be typed name the planner by its name where it is on the path.
+os.environ["PATH"] = os.pathsep.join([str(FRONT_END.parent), os.environ["PATH"]])
 
 FLOW_MESSAGE = bytes.fromhex("010e")
 
@@ -104,6 +109,28 @@ class Updating(UpdateCommand):
         done = subprocess.run([sys.executable, str(FRONT_END), *shlex.split(line)], capture_output=True, text=True, timeout=LONGEST, check=False, env={**os.environ, "PLANNER": PLANNER})
         self.assertEqual(done.returncode, 0, done.stderr)
         self.assertTrue(net.has(net.wanted / "new.json"))
+
+    def test_what_becomes_of_packets_outside_of_the_model_is_said_before_the_question(self):
+        """In two phases ingress entries drop what the miss entry sent to the controller, and packets of undeclared VLANs."""
+        net = self.network("detour")
+        match = struct.pack("!I36x", 0x003820FF)
+        net.switches["s"].table[fake_switch.key_of(match, 0)] = [match, 0, bytes.fromhex("00000008fffd0000"), 0]
+        for key, one in net.switches["s"].table.items():
+            net.switches["s"].table[key] = [*one[:3], 7 if one[1] else 0]
+        status, said = self.run_it(net, "--dry-run")
+        self.assertEqual(status, 0, said)
+        plan = json.loads((net.wanted / "update-1" / "plan.json").read_text())
+        rounds = [number for number, changes in enumerate(plan["rounds"], 1) for _, at in changes if plan["rules"][at]["out"] == "drop" and plan["rules"][at]["switch"] == "s" and "in_port" in plan["rules"][at]]
+        self.assertIn(f"Note: in rounds {min(rounds)} to {max(rounds)} s drops IP packets of hosts that no rule takes, as of DHCP, which it sends to the controller now.\n", said)
+        self.assertIn(f"Note: in rounds {min(rounds)} to {max(rounds)} s drops IP packets of hosts with VLANs that the topology doesn't declare, which rules for any VLAN take now.\n", said)
+        self.assertRegex(said, r"Note: entries have cookies \(\d+ at s\): one that the plan deletes, and that is put back where the update is turned back, has the cookie 0 then\.")
+        self.nothing_was_sent(net)
+
+    def test_an_ordered_plan_has_nothing_of_that(self):
+        rule = {"switch": "s1", "priority": 5, "dst": "0.0.0.0/0", "out": "drop"}
+        plan = {"kind": "ordered", "rules": [rule], "rounds": [[["delete", 0]]]}
+        self.assertEqual([], meanwhile.meanwhile(plan, [rule], "# s1: what no entry takes is sent to the controller\n# s2: 4 of its entries have a cookie\n"))
+        self.assertEqual(1, len(meanwhile.meanwhile(plan, [rule], "# s1: 4 of its entries have a cookie\n")))
 
     def test_the_question(self):
         net = self.network()
