@@ -178,7 +178,7 @@ class Answers(unittest.TestCase):
 class Manners(unittest.TestCase):
     def test_version(self):
         self.assertEqual(f"planner {VERSION}\nprogram: {PROGRAM}, which the variable PLANNER names\n".encode(), planner("--version").stdout)
-        self.assertEqual("1.2.0", VERSION)
+        self.assertEqual("2.0.0", VERSION)
 
     def on_terminal(self, **variables):
         """What is said of a wrong word where the error stream is a terminal."""
