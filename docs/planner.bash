@@ -13,7 +13,7 @@ _planner() {
             pack) options="--wait $options" ;;
             collect) options="--switches --listen --patience $options" ;;
             apply) options="--switches --listen --wait --ask --patience --resume --back --repair --take-over --no-mark $options" ;;
-            update) options="--switches --listen --wait --ask --patience --yes --dry-run $options" ;;
+            update) options="--switches --listen --wait --ask --patience --yes --dry-run --ordered --two-phase $options" ;;
         esac
         mapfile -t COMPREPLY < <(compgen -W "$options" -- "${COMP_WORDS[COMP_CWORD]}")
         return

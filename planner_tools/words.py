@@ -201,7 +201,8 @@ OWN_OPTIONS = {
               ("--back", "goes on with it backwards: turns the round that runs, and undoes those that are settled, one by one, up to OLD"),
               ("--repair", "puts right what a switch doesn't have as it must have it, in place of stopping"),
               ("--take-over", "takes away the marks of other updates"), ("--no-mark", "puts no mark on the switches, and doesn't mind those of others")],
-    "update": [*CONNECTIONS, *CARRYING_OUT, ("--yes", "doesn't ask before the first change"), ("--dry-run", "ends before the first change")],
+    "update": [*CONNECTIONS, *CARRYING_OUT, ("--yes", "doesn't ask before the first change"), ("--dry-run", "ends before the first change"),
+               ("--ordered", "makes an ordered plan, or none"), ("--two-phase", "makes a two-phase plan, or none")],
 }
 # Commands of the program that are newer than some builds of it.
 NEW = ("paths", "trace", "tables", "certify", "pack", "serve")

@@ -1,6 +1,7 @@
 """`planner update`: from the tables that the switches have to those that are wanted, by one command.
 
     planner update DIR --switches FILE [--listen HOST:PORT] [--wait SECONDS | --ask] [--patience SECONDS] [--yes | --dry-run]
+                   [--ordered | --two-phase]
 
 DIR has topology.json, new.json and policy.json. The steps are those that can be taken one by one as well: collect, import, plan, check, apply. What they make is
 kept in a new folder in DIR, `update-1` and so on: `replies`, `old.json`, `plan.json`, and `record`, the record of the update. At the end stand the commands
@@ -20,6 +21,7 @@ import shlex
 import sys
 
 from planner_tools import program
+from planner_tools.costs import OTHER, Costs
 from planner_tools.switches import apply, collect
 from planner_tools.switches.connections import host_and_port
 from planner_tools.update.summary import summary
@@ -36,6 +38,14 @@ NEXT = {
     ("plan", BAD_FILE): "correct that file; docs/FORMATS.md has every refusal",
     ("plan", 4): "no order of single changes was found, and two phases want more tags: widen `tags` in topology.json",
     ("plan", 5): "no order of single changes was found, and two phases want more room: make room at the switch, or give its true capacity in topology.json",
+}
+
+
+# The same where a kind of plan is asked for.
+NEXT_OF_KIND = {
+    ("ordered", REFUSED): "without --ordered a two-phase plan is made, where there are tags and room for it",
+    ("two-phase", 4): "two phases want more tags: widen `tags` in topology.json, or leave --two-phase out",
+    ("two-phase", 5): "two phases want more room: make room at the switch, give its true capacity in topology.json, or leave --two-phase out",
 }
 
 
@@ -75,6 +85,8 @@ class Update:
             say(f"the switches have the tables of {self.files['new']} already: nothing is to be done")
             return 0
         for line in summary(plan, self.switches, None if self.options.ask else self.options.wait):
+            say(line)
+        for line in self.other_words(OTHER[plan["kind"]]) if self.options.dry_run or not self.options.yes else []:
             say(line)
         if self.options.dry_run:
             say(f"a dry run ends here: nothing was sent. The plan is {self.path('plan.json')}")
@@ -137,16 +149,23 @@ class Update:
         if status == 0:
             return text
         then = NEXT.get((step, status), "docs/FORMATS.md has every refusal")
+        if text.startswith(("no ordered plan\n", "too ")):
+            then = next((NEXT_OF_KIND[kind, status] for kind in self.options.kind if (kind, status) in NEXT_OF_KIND), then)
         config = self.path("old.json") if " old " in text else self.files["new"]
         raise Stopped(step, f"`planner {command}` says: {'; '.join(text.splitlines()) or f'nothing, with status {status}'}", then.format(config=config, **self.files), status)
 
     def plan(self):
         """The plan, which `check` accepts."""
         files = [self.files["topology"], self.path("old.json"), self.files["new"], self.files["policy"]]
-        text = self.of_program("plan", PLANNERS[0], *files)
+        text = self.of_program("plan", PLANNERS[0], *files, *self.options.kind)
         self.write("plan.json", text)
         say(self.of_program("check", "check", *files, self.path("plan.json")).strip())
         return json.loads(text)
+
+    def other_words(self, kind):
+        """What a plan of a kind would cost, or why there is none."""
+        files = [self.files["topology"], self.path("old.json"), self.files["new"], self.files["policy"]]
+        return Costs(program.run, files, None if self.options.ask else self.options.wait).other_words(kind)
 
     def ask(self):
         if self.options.yes:
@@ -188,6 +207,9 @@ def main(words):
     parser.add_argument("--patience", metavar="SECONDS", type=float, default=60.0)
     parser.add_argument("--yes", action="store_true")
     parser.add_argument("--dry-run", action="store_true")
+    kinds = parser.add_mutually_exclusive_group()
+    kinds.add_argument("--ordered", dest="kind", action="store_const", const=["ordered"], default=[])
+    kinds.add_argument("--two-phase", dest="kind", action="store_const", const=["two-phase"])
     options = parser.parse_args(words)
     if options.listen is not None:
         try:
