@@ -23,7 +23,7 @@ _planner() {
             from-mininet) options="--hosts --vlans --tags --capacity $options" ;;
             from-graphml) options="--hosts --external --vlans --tags --capacity --names --distances --speeds $options" ;;
             to-ofctl) options="--switches $options" ;;
-            update) options="--switches --listen --wait --ask --patience --yes --dry-run $options" ;;
+            update) options="--switches --listen --wait --ask --patience --yes --dry-run --ordered --two-phase $options" ;;
         esac
         mapfile -t COMPREPLY < <(compgen -W "$options" -- "${COMP_WORDS[COMP_CWORD]}")
         return

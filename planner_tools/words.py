@@ -255,7 +255,8 @@ OWN_OPTIONS = {
                      ("--capacity N", "how many rules each switch can hold"), ("--names labels|ids", "what the switches are named by (labels)"),
                      ("--distances FILE", "writes the lengths of the links as weights for `route`"), ("--speeds FILE", "writes their speeds so")],
     "to-ofctl": [("--switches FILE", "where each switch is reached, as for `apply`; otherwise it is a bridge of its name on this machine")],
-    "update": [*CONNECTIONS, *CARRYING_OUT, ("--yes", "doesn't ask before the first change"), ("--dry-run", "ends before the first change")],
+    "update": [*CONNECTIONS, *CARRYING_OUT, ("--yes", "doesn't ask before the first change"), ("--dry-run", "ends before the first change"),
+               ("--ordered", "makes an ordered plan, or none"), ("--two-phase", "makes a two-phase plan, or none")],
 }
 # Commands of the program that are newer than some builds of it.
 NEW = ("paths", "trace", "tables", "certify", "pack", "serve")

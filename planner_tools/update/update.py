@@ -1,6 +1,7 @@
 """`planner update`: from the tables that the switches have to those that are wanted, by one command.
 
-    planner update DIR --switches FILE [--listen HOST:PORT] [--wait SECONDS | --ask] [--patience SECONDS] [--yes | --dry-run] [--strict] [--quiet]
+    planner update DIR --switches FILE [--listen HOST:PORT] [--wait SECONDS | --ask] [--patience SECONDS] [--yes | --dry-run]
+                   [--ordered | --two-phase] [--strict] [--quiet]
 
 DIR has topology.json, new.json and policy.json. The steps are those that can be taken one by one as well: collect, import, plan, check, apply. What they make is
 kept in a new folder in DIR, `update-1` and so on: `replies`, `old.json`, `plan.json`, copies of the three files, and `record`, the record of the update. At the
@@ -22,6 +23,7 @@ import sys
 
 from planner_tools import network as nets
 from planner_tools import events, program, show
+from planner_tools.costs import OTHER, Costs
 from planner_tools.files import read_json
 from planner_tools.intent import diff
 from planner_tools.proved import How, answer_for, look, say_why
@@ -43,6 +45,14 @@ NEXT = {
     ("plan", BAD_FILE): "correct that file; docs/FORMATS.md has every refusal",
     ("plan", 4): "no order of single changes was found, and two phases want more tags: widen `tags` in topology.json",
     ("plan", 5): "no order of single changes was found, and two phases want more room: make room at the switch, or give its true capacity in topology.json",
+}
+
+
+# The same where a kind of plan is asked for.
+NEXT_OF_KIND = {
+    ("ordered", REFUSED): "without --ordered a two-phase plan is made, where there are tags and room for it",
+    ("two-phase", 4): "two phases want more tags: widen `tags` in topology.json, or leave --two-phase out",
+    ("two-phase", 5): "two phases want more room: make room at the switch, give its true capacity in topology.json, or leave --two-phase out",
 }
 
 
@@ -157,13 +167,15 @@ class Update:
         if status == 0:
             return text
         then = NEXT.get((step, status), "docs/FORMATS.md has every refusal")
+        if text.startswith(("no ordered plan\n", "too ")):
+            then = next((NEXT_OF_KIND[kind, status] for kind in self.options.kind if (kind, status) in NEXT_OF_KIND), then)
         config = self.path("old.json") if " old " in text else self.files["new"]
         raise Stopped(step, f"`planner {command}` says: {'; '.join(text.splitlines()) or f'nothing, with status {status}'}", then.format(config=config, **self.files), status)
 
     def plan(self):
         """The plan, which `check` accepts."""
         files = [self.files["topology"], self.path("old.json"), self.files["new"], self.files["policy"]]
-        text = self.of_program("plan", PLANNERS[0], *files)
+        text = self.of_program("plan", PLANNERS[0], *files, *self.options.kind)
         self.write("plan.json", text)
         events.tell("plan", file=self.path("plan.json"), plan=json.loads(text))
         progress(self.of_program("check", "check", *files, self.path("plan.json")).strip())
@@ -182,7 +194,8 @@ class Update:
         packets outside of the model and of cookies."""
         tell = progress if self.options.yes or self.options.dry_run else say
         whom = diff.summary(self.files["topology"], self.path("old.json"), self.files["new"], self.files["policy"])
-        told = [*summary(plan, self.switches, None if self.options.ask else self.options.wait), *whom, *self.meanwhile(plan)]
+        other = self.other_words(OTHER[plan["kind"]]) if self.options.dry_run or not self.options.yes else []
+        told = [*summary(plan, self.switches, None if self.options.ask else self.options.wait), *other, *whom, *self.meanwhile(plan)]
         for line in [*([] if self.options.yes else self.entries(plan)), *told]:
             tell(line)
 
@@ -200,6 +213,11 @@ class Update:
     def see_that_it_is_heard(self):
         if TELLING.fault is not None:
             raise Stopped("the question", "the error stream is closed, and nobody hears what happens", "do it where its lines are read")
+
+    def other_words(self, kind):
+        """What a plan of a kind would cost, or why there is none."""
+        files = [self.files["topology"], self.path("old.json"), self.files["new"], self.files["policy"]]
+        return Costs(program.run, files, None if self.options.ask else self.options.wait).other_words(kind)
 
     def ask(self):
         self.see_that_it_is_heard()
@@ -251,6 +269,9 @@ def main(words):
     parser.add_argument("--dry-run", action="store_true")
     parser.add_argument("--strict", action="store_true")
     parser.add_argument("--quiet", action="store_true")
+    kinds = parser.add_mutually_exclusive_group()
+    kinds.add_argument("--ordered", dest="kind", action="store_const", const=["ordered"], default=[])
+    kinds.add_argument("--two-phase", dest="kind", action="store_const", const=["two-phase"])
     options = parser.parse_args(words)
     TELLING.is_quiet = options.quiet
     ends.heed_signals()

@@ -224,9 +224,9 @@ has_packable pack_kind.TwoPhase u good has = good
 
 -- where packing ends ordered there is a plan, unless two phases alone may be written
 packing_has : (k : PackKind) → k ≢ pack_kind.TwoPhase → (u : Update) → IsPackingOrdered u → HasPackPlan k u
-packing_has pack_kind.Any other u packing = inl (inl packing)
-packing_has pack_kind.Ordered other u packing = inl packing
-packing_has pack_kind.TwoPhase other u packing = absurd (other refl)
+packing_has pack_kind.Any other u ends = inl (inl ends)
+packing_has pack_kind.Ordered other u ends = inl ends
+packing_has pack_kind.TwoPhase other u ends = absurd (other refl)
 
 module _ (apart : AreApart) (packing_apart : PackingIsApart) where
   -- where there is a plan, no cause says that there is none

@@ -144,6 +144,32 @@ fn shorter_reply(
     }
 }
 
+/// The reply by an ordered plan where two phases don't fit.
+fn unphased_reply(
+    alloc: Global,
+    files: &UpdateFiles,
+    plan: &Plan,
+    fault: TwoFault,
+) -> Result<Reply, Memory>
+    requires old { IsUserConfig files.now.net (rules_of_all files.now.old) }
+    requires new { IsUserConfig files.now.net (rules_of_all files.now.new) }
+    requires ordered { IsOrderedPlan (meaning_of files.now) plan.now }
+    requires valid { IsValidPlan files.now.net plan.now }
+    requires certified { IsCertified (task_for (meaning_of files.now) plan.now) plan.now.evidence }
+    requires classes { HasSameClasses (classes_for (task_for (meaning_of files.now) plan.now))
+        (update_classes (meaning_of files.now)) }
+    requires cause { IsTwoCause files.now.net (rules_of_all files.now.old)
+        (rules_of_all files.now.new) fault }
+    ensures { IfOk result
+        (λ r. SaysPlanOf (IsPackPlan pack_kind.Any) (meaning_of files.now) (answer_of r)) }
+{
+    match fault {
+        TwoFault::TooFewTags { .. } => chosen_reply(alloc, files, plan),
+        TwoFault::TooSmall { .. } => chosen_reply(alloc, files, plan),
+        TwoFault::Memory => Err(Memory),
+    }
+}
+
 /// The reply where there is an ordered plan, and any may be written.
 fn any_reply(alloc: Global, files: &UpdateFiles, plan: &Plan) -> Result<Reply, Memory>
     requires old { IsUserConfig files.now.net (rules_of_all files.now.old) }
@@ -165,9 +191,7 @@ fn any_reply(alloc: Global, files: &UpdateFiles, plan: &Plan) -> Result<Reply, M
     drop(none);
     match phased {
         Ok(phased) => shorter_reply(alloc, files, plan, &phased),
-        Err(TwoFault::TooFewTags { .. }) => chosen_reply(alloc, files, plan),
-        Err(TwoFault::TooSmall { .. }) => chosen_reply(alloc, files, plan),
-        Err(TwoFault::Memory) => Err(Memory),
+        Err(fault) => unphased_reply(alloc, files, plan, fault),
     }
 }
 

@@ -79,6 +79,18 @@ class UpdateCommand(unittest.TestCase):
 
 
 class Updating(UpdateCommand):
+    def test_a_kind_of_plan_may_be_asked_for(self):
+        net = self.network()
+        status, said = self.run_it(net, "--dry-run", "--two-phase")
+        if "unknown command or wrong words" in said:
+            self.skipTest("this program takes no KIND")
+        self.assertEqual(status, 0, said)
+        self.assertIn("It works in two phases", said)
+        self.assertIn("an ordered plan (KIND `ordered`) would have 2 rounds, 2 changes at 2 of 4 switches", said)
+        self.nothing_was_sent(net)
+        net = self.network("detour")
+        self.stops(net, self.run_it(net, "--yes", "--ordered"), 1, "step 3 of 5, plan", "no ordered plan", "without --ordered a two-phase plan is made")
+
     def test_both_examples_by_one_command(self):
         for name, words in (("square", "2 rounds with 2 changes at 2 of 4 switches: 2 replaced"), ("detour", "8 rounds")):
             with self.subTest(name):
