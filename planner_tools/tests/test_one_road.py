@@ -9,14 +9,18 @@ TOOLS = os.path.join(rows.ROOT, "planner_tools")
 # The modules that begin processes, and why that is no way round.
 BEGIN = {
     "program.py": "runs and builds the program, for the module below",
-    "proved.py": "has the one function",
     "switches/served.py": "runs it beside the switches, while they are listened to; `conversation.py` says what it refuses by the one function",
     "page/verdict.py": "asks for what a page shows; `page.py` says what is refused by the one function",
     "page/layout.py": "runs graphviz",
     "install/toolchain.py": "runs the toolchain",
 }
 # Those that run the program without that function, beside `program.py` itself and the one that has it.
-RUN = {"convert/from_ofctl.py": "says what `import` refuses by the lines of its own texts"}
+RUN = {
+    "convert/from_ofctl.py": "says what `import` refuses by the lines of its own texts",
+    "convert/to_ofctl.py": "asks `check` of the plan, only to say beside its scripts what that answers",
+    "intent/diff.py": "its summary is said beside a plan, over files of which the one function has said what is wrong",
+    "update/update.py": "asks what a plan of the other kind would cost, beside the plan that is carried out",
+}
 
 
 def modules():
@@ -42,11 +46,11 @@ def calls(tree, owner, name):
 
 class OneRoad(unittest.TestCase):
     def test_no_module_begins_a_process_beside_those_that_are_known(self):
-        found = {path for path, tree in modules() if {"subprocess", "multiprocessing", "pty"} & imported(tree) or any(calls(tree, "os", name) for name in ("system", "popen", "fork", "execv", "execvp", "posix_spawn"))}
+        found = {path for path, tree in modules() if {"subprocess", "multiprocessing", "pty"} & imported(tree) or any(calls(tree, "os", name) for name in ("system", "popen", "fork", "execv", "execvp", "posix_spawn", "posix_spawnp"))}
         self.assertEqual(found, set(BEGIN))
 
     def test_no_module_runs_the_program_beside_the_one_function(self):
-        found = {path for path, tree in modules() if calls(tree, "program", "run")}
+        found = {path for path, tree in modules() if calls(tree, "program", "run") or calls(tree, "program", "Started")}
         self.assertEqual(found - {"proved.py"}, set(RUN))
 
     def test_the_one_function_is_the_way_of_all_others(self):
