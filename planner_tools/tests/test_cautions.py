@@ -195,7 +195,7 @@ class Members(unittest.TestCase):
                 ("configuration", {"rules": filling}, False), ("configuration", {"rules": [*filling, {"swich": 1}]}, True), ("configuration", {"rules": filling, "x": 1}, True),
                 ("configuration", {"rules": [*filling, {"demands": 1}]}, True), ("configuration", {"rules": [[[*filling], {"name": 1}]]}, True),
                 ("plan", {"rules": filling, "rounds": [[["insert", 0]]]}, False), ("plan", {"rules": [*filling, {"do": "insert"}], "rounds": [[["insert", 0]]]}, True),
-                ("plan", {"rounds": [[{"do": "insert"}], [{"do": "insert", "comment": 1}]]}, True), ("plan", {"rounds": [[], [{"do": "insert"}]], "tried": [[{"set": 1}]]}, False)):
+                ("plan", {"rounds": [[{"do": "insert"}], [{"do": "insert", "note": 1}]]}, True), ("plan", {"rounds": [[], [{"do": "insert"}]], "tried": [[{"set": 1}]]}, False)):
             with self.subTest(kind=kind, value=str(value)[-60:]):
                 self.assertEqual(is_odd, cautions.has_odd_member(kind, json.dumps(value)))
         self.assertTrue(cautions.has_odd_member("policy", '{"demands": [{"dst": "10.0.0.0/24", "dst": "10.0.1.0/24"}]}'))

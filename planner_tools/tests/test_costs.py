@@ -118,7 +118,7 @@ class Words(unittest.TestCase):
         status, text, said = self.said("pack", "detour", "ordered")
         self.assertEqual((1, "no ordered plan\ntried: []\n"), (status, text))
         self.assertIn("none of them is safe as the first one, and only an ordered plan is asked for", said)
-        self.assertIn("`planner pack detour two-phase` makes a two-phase plan", said)
+        self.assertIn("planner pack detour two-phase` makes a two-phase plan", said)
         self.assertNotIn("harmed", said)
 
     def test_too_few_tags_with_two_phase(self):
