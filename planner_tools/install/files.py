@@ -89,8 +89,8 @@ def day_of(root):
     if os.environ.get("SOURCE_DATE_EPOCH"):
         return datetime.datetime.fromtimestamp(int(os.environ["SOURCE_DATE_EPOCH"]), datetime.timezone.utc).strftime("%Y-%m-%d")
     with open(os.path.join(root, "CHANGELOG.md"), encoding="utf-8") as file:
-        heads = [line.split() for line in file if line.startswith("## ")]
-    return heads[0][-1]
+        days = [line.split()[-1] for line in file if re.match(r"## .* \d{4}-\d\d-\d\d$", line)]
+    return days[0]
 
 
 def program_to_install():
