@@ -35,10 +35,10 @@ RUNS = [
 FRONT_RUNS = [
     "show .", "page .", "to-ofctl plan.json {0}/scripts", "from-mininet {0}/mininet", "from-graphml {0}/graph --hosts a --vlans 2 --tags 3000-3100 --capacity 9",
     "from-ofctl topology.json s1={0}/flows", "collect topology.json --switches {0}/none", "update . --switches {0}/none", "apply . {0}/record --switches {0}/none",
-    "install {0}/none/prefix", "--help", "--version", "check --help", "chek",
+    "adopt . --switches {0}/none", "diff .", "links .", "policy .", "route topology.json {0}/prefixes", "install {0}/none/prefix", "--help", "--version", "check --help", "chek",
 ]
 TEXTS = {
-    "input": "start\n", "flows": " cookie=0x0, duration=1s, table=0, n_packets=0, n_bytes=0, priority=5,ip,nw_dst=10.0.0.0/24 actions=output:2\n",
+    "input": "start\n", "prefixes": "10.0.0.0/24 s4:3\n", "flows": " cookie=0x0, duration=1s, table=0, n_packets=0, n_bytes=0, priority=5,ip,nw_dst=10.0.0.0/24 actions=output:2\n",
     "mininet": "h1 h1-eth0:s1-eth1\ns1 lo:  s1-eth1:h1-eth0 s1-eth2:s2-eth1\ns2 lo:  s2-eth1:s1-eth2\n",
     "graph": '<graphml xmlns="http://graphml.graphdrawing.org/xmlns"><key id="d0" for="node" attr.name="label" attr.type="string"/><graph edgedefault="undirected">'
              '<node id="0"><data key="d0">a</data></node><node id="1"><data key="d0">b</data></node><edge source="0" target="1"/></graph></graphml>\n',
