@@ -81,18 +81,20 @@ class Held:
     def __init__(self):
         self.files = {one: tempfile.TemporaryFile(prefix="planner-") for one in (1, 2)}
         self.before = {one: os.dup(one) for one in self.files}
-        self.texts = {}
+        self.streams, self.texts = (sys.stdout, sys.stderr), {}
 
     def __enter__(self):
         sys.stdout.flush()
         sys.stderr.flush()
         for one, file in self.files.items():
             os.dup2(file.fileno(), one)
+        sys.stdout, sys.stderr = (open(one, "w", encoding="utf-8", errors=stream.errors, closefd=False) for one, stream in zip(self.files, self.streams))
         return self
 
     def __exit__(self, *_):
         sys.stdout.flush()
         sys.stderr.flush()
+        sys.stdout, sys.stderr = self.streams
         for one, file in self.files.items():
             os.dup2(self.before[one], one)
             os.close(self.before[one])
@@ -146,22 +148,24 @@ class Report:
         """The object."""
         reason, named = answers.reason_of(status, self.text) if self.asking else (None, None)
         verdict = answers.verdict_of(self.name, status, self.text, self.said["warning"]) if self.asking else self.own_verdict(status)
-        own = self.own_values() if status in (0, REFUSED) and self.name in WITH_OPTION else NOTHING
+        value = self.own_value(status)
+        own = value if isinstance(value, dict) else NOTHING
         is_written = output is not None and status == 0
         return {"format": FORMAT, "command": self.name, "status": status, "verdict": verdict, "reason": reason, "class": named, "paths": self.paths(status),
                 "places": [place for one in self.said["refusal"] for place in one["places"]], "warnings": self.said["warning"], "refusals": self.said["refusal"],
                 "notes": self.said["note"], "said": self.lines, "output": output if is_written else None,
-                "answer": None if is_written or own else answers.value_of(self.name, status, self.text), **own}
+                "answer": None if is_written or own else value if value is not None else answers.value_of(self.name, status, self.text), **own}
 
     def own_verdict(self, status):
         """The verdict of a command outside the proved program."""
         return ANSWERS_NO.get(self.name, "stopped") if status == REFUSED else answers.verdict_of("", status)
 
-    def own_values(self):
+    def own_value(self, status):
+        """What the command itself writes as JSON: an object, whose members stand beside the others, or a list, which is the answer; None where it is neither."""
         try:
-            return json.loads(self.text)
+            return json.loads(self.text) if status in (0, REFUSED) and self.name in WITH_OPTION else None
         except ValueError:
-            return NOTHING
+            return None
 
     def paths(self, status):
         """The ways of packets that were looked at."""

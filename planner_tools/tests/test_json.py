@@ -145,7 +145,7 @@ class Answers(unittest.TestCase):
         status, value = self.object_of("collect", "topology.json")
         self.assertEqual((2, "wrong words"), (status, value["verdict"]))
         status, value = self.object_of("--version")
-        self.assertEqual((0, f"planner {test_front.VERSION}\n"), (status, value["answer"]))
+        self.assertEqual((0, f"planner {test_front.VERSION}"), (status, value["answer"].splitlines()[0]))
         status, value = self.object_of("check", "--help")
         self.assertEqual((0, next(one.name for one in PROVED if one.name == "check") in value["answer"]), (status, True))
 

@@ -84,7 +84,7 @@ class Words(unittest.TestCase):
         self.assertEqual(planner("links", square, "--empty", "s1-s3", "--empty", "s4:2"), (0, "empty: s1:3 - s3:3\nempty: s1:4 - s4:2\n", ""))
         self.assertEqual(planner("links", "--empty", "s4-s1", square, "new.json"), (1, "used: s1:4 - s4:2\n  s1:4 to s4:2: 3 classes, 10.0.0.0/24\n", ""))
         status, text, _ = planner("links", square, "--empty", "s1:3", "--empty", "s2", "--json")
-        self.assertEqual((status, [one["empty"] for one in json.loads(text)]), (1, [True, False]))
+        self.assertEqual((status, [one["empty"] for one in json.loads(text)["answer"]]), (1, [True, False]))
 
     def test_what_is_refused(self):
         square = EXAMPLES / "square"
