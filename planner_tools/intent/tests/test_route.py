@@ -42,12 +42,16 @@ class Case:
         return [folder.path, "--weights", "weights", *(word for one in drained for word in ("--drain", one))]
 
 
+# What is said where the rules that stay leave no priority for a new one.
+NO_ROOM = "no priority is left"
+
+
 class Drafts(unittest.TestCase):
     def draft(self, case, *more):
         folder = Folder(self, topology=case.net, old=case.old)
         status, text, said = front("route", *case.words(folder), *more)
-        if status == 1:
-            return None, said, folder        # rules that stay and new ones send packets in circles: the text is none
+        if status == 1 or status == 3 and NO_ROOM in said:
+            return None, said, folder        # rules that stay and new ones send packets in circles, or leave no priority between them: the text is none
         self.assertEqual(status, 0, said)
         folder.write("new", json.loads(text))
         self.assertEqual(asked("config", folder / "topology.json", folder / "new.json")[0], 0)
@@ -82,7 +86,7 @@ class Drafts(unittest.TestCase):
                 case.old["rules"] += [case.blocked] if not any(rule["priority"] == 115 for rule in case.old["rules"]) else []
                 new, said, _ = self.draft(case, "--from", "old.json")
                 if new is None:
-                    self.assertIn("a second time", said)
+                    self.assertTrue("a second time" in said or NO_ROOM in said, said)
                     continue
                 self.keeps(case, new, counts)
         self.assertTrue(all(counts), counts)
