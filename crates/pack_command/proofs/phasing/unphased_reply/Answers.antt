@@ -14,7 +14,7 @@ returns-in-TooFewTags c =
     let u : Update = meaning_of c.args.files.now in
     let few = subst (IsTwoCause u.net u.old u.new) c.in-TooFewTags.is c.requires.cause in
     let is = ordered_without_tags u c.args.plan.now c.in-TooFewTags.need c.in-TooFewTags.has c.requires.ordered few in
-    IfOk-weaker c.chosen_reply-in-TooFewTags.result _ _ (λ r said. planned_by (IsPackPlan pack_kind.Any) u c.args.plan.now (answer_of r) is said) c.chosen_reply-in-TooFewTags.ensures
+    IfOk-weaker c.chosen_reply.result _ _ (λ r said. planned_by (IsPackPlan pack_kind.Any) u c.args.plan.now (answer_of r) is said) c.chosen_reply.ensures
 
 pub returns-in-TooSmall : goal.returns-in-TooSmall
 returns-in-TooSmall c =
