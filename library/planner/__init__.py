@@ -5,6 +5,6 @@ from planner.core import HELLO, OWN_XIDS, Event, Message, NotNow, Refused, Serve
 from planner.programs import NoProgram
 from planner.session import AsyncSession, Session
 
-__version__ = "1.1.0"
+__version__ = "2.0.0"
 __all__ = ["Answer", "AsyncSession", "Event", "Failed", "HELLO", "Message", "NoProgram", "NotNow", "OWN_XIDS", "Packet", "Path", "Place", "Reason", "Refused",
            "Said", "ServeEnded", "Session", "Step", "Stop", "ask", "certify", "check", "config", "configuration", "cut", "explain", "is_own", "pack", "plan"]

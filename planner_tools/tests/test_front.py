@@ -254,7 +254,7 @@ class Reader(unittest.TestCase):
 
     def test_it_reads_what_json_reads(self):
         for example in sorted(os.listdir(EXAMPLES)):
-            for name in [*UPDATE, "plan.json"] if os.path.isdir(os.path.join(EXAMPLES, example)) else []:
+            for name in [*UPDATE, "plan.json"] if os.path.exists(os.path.join(EXAMPLES, example, "topology.json")) else []:
                 with open(os.path.join(EXAMPLES, example, name), "rb") as file:
                     data = file.read()
                 self.assertEqual(json.loads(data), plain(Json(name, data).root))

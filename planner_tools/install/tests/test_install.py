@@ -110,7 +110,7 @@ class Install(Installed):
     def checkout(self):
         """A checkout with the front end of this one, whose dist/ has the program of these tests, and which nothing could build."""
         root = self.folder / "checkout"
-        for name in ("planner_tools", "tools", "docs", "examples"):
+        for name in ("planner_tools", "library", "tools", "docs", "examples"):
             shutil.copytree(ROOT / name, root / name, ignore=shutil.ignore_patterns("tests", "__pycache__"))
         for name in ("planner", "README.md", "CHANGELOG.md", "SECURITY.md", "LICENSE"):
             shutil.copy2(ROOT / name, root / name)
@@ -165,7 +165,7 @@ class Completions(unittest.TestCase):
         texts = {"bash": manual.completion(), "zsh": completions.zsh(), "fish": completions.fish()}
         for command in MODULES:
             help_text = run(sys.executable, "-B", ROOT / "planner", command, "--help").stdout
-            options = set(re.findall(r"(?<![\w-])--[a-z][a-z-]*", help_text.partition("options:")[2])) - {"--help"}
+            options = set(re.findall(r"(?m)^  (?:-\w+(?: [A-Z]+)?, )?(--[a-z][a-z-]*)", help_text.partition("options:")[2])) - {"--help"}
             options |= set(re.findall(r"(?<![\w-])--[a-z][a-z-]*", help_text.partition("options:")[0].partition("usage:")[2].partition("\n\n")[0])) - {"--help"}
             self.assertEqual(options - everywhere, {flag.split()[0] for flag, _ in words.OWN_OPTIONS.get(command, [])}, command)
         for command, options in words.OWN_OPTIONS.items():

@@ -22,6 +22,8 @@ PLANNER = program.path()
 DATAPATHS = {"square": {"s1": 0xA1, "s2": 0xA2, "s3": 0xA3, "s4": 0xA4}, "detour": {"s": 0xB1, "x": 0xB2, "w": 0xB3, "y": 0xB4, "d": 0xB5}}
 # No run of a test takes longer, in seconds.
 LONGEST = 120
+# The lines that are printed to be typed name the planner by its name where it is on the path.
+os.environ["PATH"] = os.pathsep.join([str(FRONT_END.parent), os.environ["PATH"]])
 
 
 def planner(*words):

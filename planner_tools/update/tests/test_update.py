@@ -19,9 +19,6 @@ from network import EXAMPLES, FRONT_END, LONGEST, PLANNER, Network, heed_interru
 import fake_switch  # noqa: E402
 from planner_tools.update import meanwhile, summary  # noqa: E402
 
-# The lines that are printed to be typed name the planner by its name where it is on the path.
-os.environ["PATH"] = os.pathsep.join([str(FRONT_END.parent), os.environ["PATH"]])
-
 FLOW_MESSAGE = bytes.fromhex("010e")
 
 
