@@ -19,14 +19,14 @@ class Events(UpdateTest):
         net = Network(self, "square")
         done, events = self.events_of(net)
         self.assertEqual((0, ""), (done.returncode, done.stderr))
-        told = [one for one in events if one["event"] != "says"]
+        told = [one for one in events if one["event"] not in ("says", "note")]
         rule = {"dst": "10.0.0.0/24", "out": 4, "priority": 100, "switch": "s1"}
         self.assertEqual([{"event": "started", "round": 1}, {"event": "changed", "round": 1, "change": 0, "do": "replace", "rule": rule}, {"event": "settled", "round": 1}], told[:3])
         self.assertEqual(["started", "changed", "settled"] * 2 + ["end"], [one["event"] for one in told])
         self.assertEqual({"event": "end", "command": "apply", "status": 0, "verdict": "done"}, events[-1])
         self.assertTrue(any(one["event"] == "says" and one["words"].startswith("done: ") for one in events))
         done, events = self.events_of(net, "--back")
-        told = [one for one in events if one["event"] != "says"]
+        told = [one for one in events if one["event"] not in ("says", "note")]
         self.assertEqual(["turned", "undone", "taken back"] * 2 + ["end"], [one["event"] for one in told])
         self.assertEqual([2, 2, 2, 1, 1, 1], [one["round"] for one in told[:-1]])
 
@@ -59,7 +59,7 @@ class Events(UpdateTest):
     def test_a_session_that_fails(self):
         net = Network(self, "square", only={"s1": {"error_at": 1}})
         done, events = self.events_of(net)
-        told = [one for one in events if one["event"] != "says"]
+        told = [one for one in events if one["event"] not in ("says", "note")]
         self.assertEqual(["started", "failed", "stopped", "end"], [one["event"] for one in told])
         self.assertEqual(("s1", "Error 3 0"), (told[1]["switch"], told[1]["cause"]))
         self.assertIn("--resume", told[2]["next"])
