@@ -251,39 +251,39 @@ tried: [[{"do":"replace","dst":"10.0.0.0/24","out":1,"priority":100,"switch":"w"
 }
 
 /// The rounds that were tried stand in the plan of two phases that is written for the update.
-fn has_tried(rt: &impl Abort, alloc: Global, texts: &UpdateTexts<'_>, tried: &[u8], row: &str) {
+fn has_tried(rt: &impl Abort, alloc: Global, texts: &UpdateTexts<'_>, tried: &str, row: &str) {
     let answer = answer_by(rt, alloc, Planner::PackTwoPhase, texts, 0);
-    let held = answer.text.windows(tried.len()).any(|part| part == tried);
-    assert!(rt; held, "{row}");
+    let text = str::from_utf8(&answer.text).ok().expect(rt, "text");
+    assert!(rt; text.contains(tried), "{row}");
 }
 
 #[test]
 fn with_two_phase_ordered_plans_are_never_written(rt: HostRuntime) {
     let alloc = rt.alloc();
-    let rows: [(&str, UpdateTexts<'_>, &[u8], &[u8]); 4] = [
+    let rows: [(&str, UpdateTexts<'_>, &[u8], &str); 4] = [
         (
             "square",
             square::update(),
             b"accepted: two-phase, 8 rounds, 12 classes\n",
-            b"\"tried\":[]",
+            "\"tried\":[]",
         ),
         (
             "leaves",
             leaves::update(),
             b"accepted: two-phase, 8 rounds, 96 classes\n",
-            b"\"tried\":[]",
+            "\"tried\":[]",
         ),
         (
             "packing is stuck",
             stuck::packing(),
             b"accepted: two-phase, 8 rounds, 3 classes\n",
-            b"\"tried\":[]",
+            "\"tried\":[]",
         ),
         (
             "both are stuck after two rounds",
             detour::open_update(),
             b"accepted: two-phase, 8 rounds, 6 classes\n",
-            b"\"tried\":[[[\"replace\",16]],[[\"replace\",17]]]",
+            "\"tried\":[[[\"replace\",16]],[[\"replace\",17]]]",
         ),
     ];
     for (row, texts, line, tried) in rows {
