@@ -31,8 +31,9 @@ def planner(*words):
 
 
 def heed_interrupts():
-    """Has what is begun heed an interrupt also where these tests were begun in the background, with interrupts ignored."""
-    signal.signal(signal.SIGINT, signal.SIG_DFL)
+    """Has what is begun heed an interrupt and a closed terminal also where these tests were begun in the background, with these ignored."""
+    for number in (signal.SIGINT, signal.SIGHUP, signal.SIGTERM):
+        signal.signal(number, signal.SIG_DFL)
 
 
 def end(run):
