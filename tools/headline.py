@@ -473,8 +473,8 @@ def page(specs):
 
 
 def with_counts(readme, rows):
-    """Returns the text of README.md with the counts of the parts between their marks."""
-    parts = [f"{definitions} definitions in {lines} lines for {title[0].lower()}{title[1:]}" for title, definitions, lines, *_ in rows[:-1]]
+    """Returns the text of README.md with the counts of the parts between their marks: definitions, and their lines in brackets."""
+    parts = [f"{definitions} ({lines}) for {title[0].lower()}{title[1:]}" for title, definitions, lines, *_ in rows[:-1]]
     declared = f"and {rows[-1][3]} types that the code declares"
     text, found = re.subn(r"<!-- counts -->.*?<!-- /counts -->", f"<!-- counts -->{', '.join([*parts, declared])}<!-- /counts -->", readme, flags=re.S)
     if found != 1:

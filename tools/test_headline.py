@@ -148,7 +148,7 @@ class Page(unittest.TestCase):
 
     def test_counts_stand_between_their_marks(self):
         rows = [("One part", 2, 40, 3, 7, 5), ("Other part", 4, 5, 6, 7, 8), ("All", 9, 9, 9, 9, 9)]
-        wanted = "a <!-- counts -->2 definitions in 40 lines for one part, 4 definitions in 5 lines for other part, and 9 types that the code declares<!-- /counts --> b"
+        wanted = "a <!-- counts -->2 (40) for one part, 4 (5) for other part, and 9 types that the code declares<!-- /counts --> b"
         self.assertEqual(headline.with_counts("a <!-- counts -->old\ntext<!-- /counts --> b", rows), wanted)
         with self.assertRaises(LookupError):
             headline.with_counts("no marks", rows)
