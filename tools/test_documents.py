@@ -11,7 +11,7 @@ import unittest
 
 ROOT = os.path.dirname(os.path.dirname(os.path.realpath(__file__)))
 LONGEST = 40
-PAGES = ("README.md", "docs/TOUR.md")
+PAGES = ("README.md", "docs/TOUR.md", "docs/CLAIMS.md")
 
 # What isn't read as sentences: blocks of code, and lines of tables. (Marks of what scripts write are passed over.)
 APART = re.compile(r"^```.*?^```$|^\|.*?$", re.M | re.S)
