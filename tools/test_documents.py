@@ -1,9 +1,10 @@
 #!/usr/bin/env python3
-"""Holds the sentences of the pages that an operator reads: none is longer than LONGEST words.
+"""Holds the sentences of the pages that an operator reads: none is longer than LONGEST words. And holds that each link to a section has one.
 
     tools/test_documents.py              the tests
     tools/test_documents.py PAGE ..      tells the longer sentences of these pages, each with its count of words
 """
+import glob
 import os
 import re
 import sys
@@ -11,7 +12,9 @@ import unittest
 
 ROOT = os.path.dirname(os.path.dirname(os.path.realpath(__file__)))
 LONGEST = 40
-PAGES = ("README.md", "docs/TOUR.md", "docs/CLAIMS.md")
+PAGES = ("README.md", "docs/TOUR.md", "docs/CONTROLLER.md", "docs/CLAIMS.md")
+# Where all documents are, for their links.
+PLACES = ("*.md", "docs/*.md", "lab/*.md", "planner_tools/page/*.md")
 
 # What isn't read as sentences: blocks of code, and lines of tables. (Marks of what scripts write are passed over.)
 APART = re.compile(r"^```.*?^```$|^\|.*?$", re.M | re.S)
@@ -38,6 +41,18 @@ def too_long(page, longest=LONGEST):
     return [one for one in sentences(page) if len(one.split()) > longest]
 
 
+def sections(page):
+    """Returns the names by which links reach the sections of a page."""
+    heads = re.findall(r"^#+ +(.*)$", APART.sub("", page), re.M)
+    return {re.sub(r"[^\w\- ]", "", head.lower()).replace(" ", "-") for head in heads}
+
+
+def lost(path):
+    """Returns the links of a page to sections that aren't there, of its own or of another page."""
+    links = re.findall(r"\]\(([^)#:]*)#([^)]*)\)", read(path))
+    return [f"{target}#{name}" for target, name in links if name not in sections(read(os.path.join(os.path.dirname(path), target) if target else path))]
+
+
 def read(path):
     with open(os.path.join(ROOT, path), encoding="utf-8") as file:
         return file.read()
@@ -48,6 +63,16 @@ class Documents(unittest.TestCase):
         for path in PAGES:
             with self.subTest(path):
                 self.assertEqual([], too_long(read(path)))
+
+    def test_each_link_to_a_section_has_one(self):
+        paths = [os.path.relpath(path, ROOT) for place in PLACES for path in sorted(glob.glob(os.path.join(ROOT, place)))]
+        self.assertLess(20, len(paths))
+        for path in paths:
+            with self.subTest(path):
+                self.assertEqual([], lost(path))
+
+    def test_sections_have_the_names_of_their_heads(self):
+        self.assertEqual(sections("# A `serve`, one\n\n```\n# no\n```\n## What can't be said\n"), {"a-serve-one", "what-cant-be-said"})
 
     def test_a_page_is_cut_at_the_ends_of_sentences(self):
         page = "# A head\n\nOne [link of words](to.md) here. `planner check ..` is code! (So?)\nYes.\n- an item\n- two. Three\n\n| a | table. |\n\n```\ncode. code.\n```\n> said: <!-- m -->so<!-- /m -->\n"
