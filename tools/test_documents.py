@@ -1,6 +1,5 @@
-#!/usr/bin/env python3
-"""Holds the sentences of the pages that an operator reads: none is longer than LONGEST words. And holds that each link to
-a section has one.
+"""Holds that no sentence of the pages that an operator reads is longer than LONGEST words, and that each link to a section
+has one.
 
     tools/test_documents.py              the tests
     tools/test_documents.py PAGE ..      tells the longer sentences of these pages, each with its count of words
@@ -27,7 +26,7 @@ END = re.compile(r"(?<=[.?!])(?:[)*\"']*)(?:\s+|$)")
 
 
 def sentences(page: str) -> list[str]:
-    """Returns the sentences of a page, outside code and tables. Code in a sentence, and a link, count as their words."""
+    """Returns the sentences of a page, outside code and tables. Code and links in a sentence count as their words."""
     found = []
     for block in BLOCK.split(APART.sub("\n\n", MARK.sub("", page))):
         text = re.sub(r"`+([^`]*)`+", lambda code: code[1].replace(".", "·"), block)
