@@ -1,5 +1,5 @@
-"""Holds that no sentence of the pages that an operator reads is longer than LONGEST words, and that each link to a section
-has one.
+"""Holds that no sentence of the pages that an operator reads is longer than LONGEST words, and that each link to a
+section has one.
 
     tools/test_documents.py              the tests
     tools/test_documents.py PAGE ..      tells the longer sentences of these pages, each with its count of words
