@@ -54,7 +54,7 @@ pattern_around p h = record { in_port = port_around p.in_port h.port; vlan = tes
 
 -- the slot of a pattern, of so many
 abbrev pub slot_of : ℕ → Pattern → ℕ
-slot_of count p = (p.dst.base + port_rank p.in_port * 40503 + vlan_rank p.vlan * 65599 + p.dst.len * 10007) % count
+slot_of count p = (p.dst.base * 2654435761 + port_rank p.in_port * 134217757 + vlan_rank p.vlan * 268435459 + p.dst.len * 536870923) / 65536 % count
 
 -- the patterns of a space by their positions, one of each kind, and how many slots there are
 pub record SpaceState : Type 0 where

@@ -157,7 +157,7 @@ fn add_patterns(space: &mut TupleSpace, rules: &[Rule]) -> bool
     true
 }
 
-/// A space of the patterns of rules, where they are of at most 16 kinds.
+/// A space of the patterns of rules, where it has room for all their kinds.
 pub(crate) fn space_of(alloc: Global, rules: &[Rule]) -> Result<Option<TupleSpace>, Memory>
     ensures { IfOk result (λ found. IfSome found (λ s. s.patterns ≡ patterns_of rules.now)) }
 {

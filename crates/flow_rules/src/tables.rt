@@ -62,7 +62,7 @@ impl Table {
 
     /// What the table does with a packet that comes in by a port with a VLAN to an address: the action of the first of the
     /// rules of greatest priority that cover it, or discard (OpenFlow 1.0.0, section 3.4). Where the table is indexed it looks
-    /// at the rules of one slot for each kind of pattern, at most 16, otherwise at all rules.
+    /// at the rules of one slot for each kind of pattern, otherwise at all rules.
     pub fn lookup(&self, port: Port, vlan: Vlan, dst: u32) -> Action
         ensures { result ≡ lookup (record { port = port; vlan = vlan; dst = dst }) self.now.rules }
     {
@@ -140,7 +140,8 @@ impl Table {
     }
 
     /// Has look-ups search by the kinds of patterns, until the rules change: where there are at least 16 rules, of at most 16
-    /// kinds. Takes time by the rules. Where memory is wanting the table stays as it was.
+    /// kinds, or of a fourth as many kinds as there are rules. Takes time by the rules times their kinds. Where memory is wanting
+    /// the table stays as it was.
     pub fn index(&mut self) -> Result<(), Memory>
         ensures { self.new ≡ self.old }
     {

@@ -14,8 +14,15 @@ use net_base::{Memory, Port, Prefix, Vlan};
 use std::alloc::Global;
 use std::marker::Model;
 
-/// How many kinds of patterns a space takes.
-const MOST_KINDS: usize = 16;
+/// How many kinds of patterns there are: with a port or without, with a test of the VLAN or without, with each of 33 lengths.
+const ALL_KINDS: usize = 132;
+
+/// How many kinds a space takes where it has room for few patterns.
+const FEW_KINDS: usize = 16;
+
+/// In a space with more room there are so many patterns for each of its kinds: a look into a slot takes as long as a look at so
+/// many rules.
+const PATTERNS_OF_A_KIND: usize = 4;
 
 /// Up to how many patterns there are twice as many slots.
 const MOST_APART: usize = 1 << 20;
@@ -140,17 +147,19 @@ fn pattern_around(kind: &Pattern, port: Port, vlan: Vlan, dst: u32) -> Pattern
     }
 }
 
-/// The slot of a pattern, of so many.
+/// The slot of a pattern, of so many. The parts are multiplied, and the low half of 32 bits is left out (Knuth, The Art of
+/// Computer Programming 3, section 6.4), so that bases which are multiples of one number don't share a slot.
 fn slot_of(pattern: &Pattern, slots: usize) -> usize
     requires { 0 < slots }
     ensures slot { result ≡ slot_of slots pattern.now }
     ensures within { result < slots }
 {
-    let port = u64::from(rank_of_port(pattern.in_port)) * 40503;
-    let vlan = u64::from(rank_of_vlan(pattern.vlan)) * 65599;
+    let port = u64::from(rank_of_port(pattern.in_port)) * 134_217_757;
+    let vlan = u64::from(rank_of_vlan(pattern.vlan)) * 268_435_459;
     let prefix = &pattern.dst;
-    let number = u64::from(prefix.base) + port + vlan + u64::from(prefix.len) * 10007;
-    (number % slots as u64) as usize
+    let length = u64::from(prefix.len) * 536_870_923;
+    let number = u64::from(prefix.base) * 2_654_435_761 + port + vlan + length;
+    (number / 65_536 % slots as u64) as usize
 }
 
 /// The position that a number links to.
@@ -183,7 +192,7 @@ fn add_kind(kinds: &mut Vec<Pattern>, pattern: &Pattern) -> bool
     if has_kind(kinds, pattern) {
         return true;
     }
-    if kinds.len() == kinds.capacity() || kinds.len() >= MOST_KINDS {
+    if kinds.len() == kinds.capacity() {
         return false;
     }
     kinds.push_reserved(*pattern);
@@ -198,16 +207,17 @@ fn keeps_bits(prefix: Prefix)
 }
 
 impl TupleSpace {
-    /// A space without patterns, with room for so many, and slots for twice as many. Their number is odd, so that prefixes
-    /// of one length have slots of their own.
+    /// A space without patterns, with room for so many, for a fourth as many kinds, 16 at least and all 132 at most, and with
+    /// slots for twice as many patterns.
     pub fn with_room(alloc: Global, patterns: usize) -> Result<TupleSpace, Memory>
         ensures { IfOk result (λ s. s.patterns ≡ []) }
     {
         let slots = patterns.min(MOST_APART) * 2 + 1;
+        let kinds = (patterns / PATTERNS_OF_A_KIND).clamp(FEW_KINDS, ALL_KINDS);
         Ok(TupleSpace {
             heads: vec![in alloc; 0; slots]?,
             entries: Vec::with_capacity(alloc, patterns)?,
-            kinds: Vec::with_capacity(alloc, MOST_KINDS)?,
+            kinds: Vec::with_capacity(alloc, kinds)?,
         })
     }
 
@@ -221,7 +231,7 @@ impl TupleSpace {
     }
 
     /// Adds a pattern at the next position; whether it could. It can't where the room is full, or the pattern is of a kind
-    /// that isn't there yet, and there are 16.
+    /// that isn't there yet, and there are as many as there is room for.
     pub fn add(&mut self, pattern: &Pattern) -> bool
         ensures added { IsTrue result → self.new.patterns ≡ self.old.patterns ++ pattern.now ∷ [] }
         ensures kept { IsTrue (not result) → self.new.patterns ≡ self.old.patterns }

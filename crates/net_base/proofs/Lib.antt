@@ -10,3 +10,4 @@ pub mod ItemTurns
 pub mod TextLines
 pub mod Prefixes
 pub mod SetLaws
+pub mod NumberLaws

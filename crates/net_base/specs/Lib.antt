@@ -7,3 +7,4 @@ pub mod Lines
 pub mod Reading
 pub mod Fields
 pub mod Switches
+pub mod Numbers

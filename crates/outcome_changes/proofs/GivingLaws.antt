@@ -17,7 +17,7 @@ use Rattle.update_model.specs.declared.Change.{Change}
 use Rattle.update_model.proofs.ChangeLaws.{key_named}
 use Rattle.round_mix.specs.Prepared.{AreGood, AreClear}
 use Rattle.outcome_changes.specs.Giving.{IsChangeAt, GiveOutcome}
-use Rattle.outcome_changes.specs.Trials.{is_at, is_tried, takes, numbers_from, trial_of, outcome_after, FailsWith}
+use Rattle.outcome_changes.specs.Trials.{is_at, is_tried, takes, numbers_where, trial_of, outcome_after, FailsWith}
 use Rattle.outcome_changes.specs.declared.trying.Trial.{Trial}
 use Rattle.outcome_changes.proofs.NumberLaws.{numbers_rise, each_number, numbered}
 use Rattle.outcome_changes.proofs.AppliedLaws.{taken_there}
@@ -25,7 +25,7 @@ use Rattle.outcome_changes.proofs.TrialLaws.{some_gives}
 
 -- the numbers of what a trial takes give what it gives
 pub gives_from : (net : Network) (rules : List Rule) (round : List Change) (t : Trial) (wanted : Outcome) (numbers : List ℕ)
-    → numbers ≡ numbers_from 0 (takes t) round → outcome_after net rules round t ≡ wanted → GiveOutcome net rules round t.place t.dst wanted numbers
+    → numbers ≡ numbers_where 0 (takes t) round → outcome_after net rules round t ≡ wanted → GiveOutcome net rules round t.place t.dst wanted numbers
 gives_from net rules round t wanted numbers are gives =
     subst (GiveOutcome net rules round t.place t.dst wanted) (sym are) (record {
       rise = numbers_rise (takes t) 0 round;

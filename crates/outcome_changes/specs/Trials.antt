@@ -40,9 +40,9 @@ abbrev pub takes : Trial → Change → Bool
 takes t c = is_at t.place.switch c && is_tried (header_at t.place t.dst) t.turned c
 
 -- the numbers of the changes that pass a test, the first change having this number
-abbrev pub numbers_from : ℕ → (Change → Bool) → List Change → List ℕ
-numbers_from n p [] = []
-numbers_from n p (c ∷ cs) = cond (p c) (n ∷ numbers_from (suc n) p cs) (numbers_from (suc n) p cs)
+abbrev pub numbers_where : ℕ → (Change → Bool) → List Change → List ℕ
+numbers_where n p [] = []
+numbers_where n p (c ∷ cs) = cond (p c) (n ∷ numbers_where (suc n) p cs) (numbers_where (suc n) p cs)
 
 -- a trial at a place
 abbrev pub trial_of : Place → ℕ → Option Key → Trial

@@ -4,7 +4,7 @@ ghost use Rattle.path_walk.specs.Outcomes.{header_at};
 ghost use Rattle.update_model.specs.Changes.{AppliesTo, rule_of, changes_at, rules_after};
 ghost use Rattle.round_mix.specs.Prepared.{AreGood};
 ghost use Rattle.update_model.specs.Mixtures.{is_delete};
-ghost use Rattle.outcome_changes.specs.Trials.{is_at, covers_packet, is_turned, is_above, is_tried, takes, numbers_from};
+ghost use Rattle.outcome_changes.specs.Trials.{is_at, covers_packet, is_turned, is_above, is_tried, takes, numbers_where};
 
 use flow_rules::{Key, Table};
 use net_base::{ListOf, Memory, Place};
@@ -96,7 +96,7 @@ impl Trial {
 
     /// The numbers of the changes of a round that are taken.
     pub(crate) fn numbers(&self, alloc: Global, round: &[Change]) -> Result<ListOf<usize>, Memory>
-        ensures { IfOk result (λ numbers. numbers ≡ numbers_from 0 (takes self.now) round.now) }
+        ensures { IfOk result (λ numbers. numbers ≡ numbers_where 0 (takes self.now) round.now) }
     {
         let mut numbers = ListOf::make(alloc)?;
         for (i, change) in round.iter().enumerate() {

@@ -609,8 +609,9 @@ impl Mixed {
     }
 
     /// Has `possible` search by the kinds of patterns, until rules come or go: where at least 16 are prepared, of at most
-    /// 16 kinds, the room isn't far more than they need, and no look-up would end among the first 16 in any case. The time is
-    /// that of the rules, and it takes no memory. What is indexed already stays so.
+    /// 16 kinds or a fourth as many as there is room for rules, the room isn't far more than they need, and no look-up would end
+    /// among the first 16 in any case. The time is that of the rules times their kinds, and it takes no memory. What is indexed
+    /// already stays so.
     pub fn index(&mut self)
         ensures { self.new ≡ self.old }
     {

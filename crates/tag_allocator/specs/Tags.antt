@@ -1,14 +1,10 @@
 -- Tags for declared VLANs.
-use Rattle.std.specs.Prelude.{ℕ, zero, suc, ◌-◌, ◌==◌, not, Bool, false, List, [], ◌∷◌, filter, Option, Some, None}
+use Rattle.std.specs.Prelude.{ℕ, suc, ◌-◌, ◌==◌, not, Bool, false, List, [], ◌∷◌, filter, Option, Some, None}
 use Rattle.std.specs.List.{list_any}
+use Rattle.net_base.specs.Numbers.{numbers_from}
 use Rattle.net_base.specs.declared.ids.Vlan.{Vlan}
 use Rattle.net_base.specs.declared.ids.Vlan.TheVariants as vlan
 use Rattle.topology.specs.Networks.{Network, TagRange}
-
--- so many numbers from one on
-abbrev pub numbers_from : ℕ → ℕ → List ℕ
-numbers_from n zero = []
-numbers_from n (suc count) = n ∷ numbers_from (suc n) count
 
 -- the ids of a tag range, ascending
 abbrev pub ids_of : Option TagRange → List ℕ

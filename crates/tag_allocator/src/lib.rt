@@ -5,7 +5,8 @@ ghost use Rattle.std.specs.Prelude.{◌≡◌, ◌<◌, ◌≤◌, ◌-◌, ◌+
 ghost use Rattle.std.specs.List.{AllByRecursion, list_any};
 ghost use Rattle.net_base.specs.Members.{IsDistinct};
 ghost use Rattle.topology.specs.Networks.{IsAvailableTag};
-ghost use Rattle.tag_allocator.specs.Tags.{available_tags, tags_of, has_id, numbers_from};
+ghost use Rattle.net_base.specs.Numbers.{numbers_from};
+ghost use Rattle.tag_allocator.specs.Tags.{available_tags, tags_of, has_id};
 ghost use Rattle.tag_allocator.specs.TagFaults.{IsTagCause};
 
 use net_base::{Memory, Vlan};

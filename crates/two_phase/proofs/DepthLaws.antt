@@ -13,8 +13,8 @@ use Rattle.flow_rules.specs.Tables.{rules_at}
 use Rattle.flow_rules.specs.declared.rules.Rule.{Rule}
 use Rattle.flow_rules.proofs.OverlapLaws.{meet_out}
 use Rattle.dest_classes.proofs.ClassLaws.{in_ascending}
-use Rattle.tag_allocator.specs.Tags.{numbers_from}
-use Rattle.tag_allocator.proofs.TagLaws.{in_numbers, numbers_length}
+use Rattle.net_base.specs.Numbers.{numbers_from}
+use Rattle.net_base.proofs.NumberLaws.{in_numbers, numbers_above, numbers_length}
 use Rattle.two_phase.specs.TwoPhasePlan.{ingress_rules, switches, ranks}
 use Rattle.two_phase.specs.Depths.{is_above, greatest, depth_through, depth_of, ingress_depth, depth_count, depths, depth_rounds}
 use Rattle.two_phase.proofs.LayerLaws.{IsLayering}
@@ -136,11 +136,6 @@ depth_less rules x r i above =
     omega arith
 
 -- ---- the layering by depth
-
-numbers_above : (n count m : ℕ) → IsIn m (numbers_from n count) → n ≤ m
-numbers_above n zero m i = absurd i
-numbers_above n (suc count) m (inl e) = omega arith
-numbers_above n (suc count) m (inr i) = let rest = numbers_above (suc n) count m i in omega arith
 
 numbers_rise : (n count : ℕ) → IsRising (numbers_from n count)
 numbers_rise n zero = tt

@@ -23,7 +23,8 @@ use Rattle.path_walk.specs.UserConfigs.{IsUserRule}
 use Rattle.update_model.specs.Changes.{switch_of, rule_of, entry_named}
 use Rattle.update_model.specs.declared.Change.{Change}
 use Rattle.update_model.proofs.MadeLaws.{distinct_some}
-use Rattle.tag_allocator.specs.Tags.{Tagged, tags_of, numbers_from}
+use Rattle.net_base.specs.Numbers.{numbers_from}
+use Rattle.tag_allocator.specs.Tags.{Tagged, tags_of}
 use Rattle.table_difference.specs.SameClasses.{every_address}
 use Rattle.two_phase.specs.TwoPhasePlan.{is_host_bound, test_of, tagged_action, ingress_action, rule, tagged_copy, tagged_rules, ingress_copy, hosts_of, ingress_rules, with_rule, in_key_order, switches, by_switch}
 use Rattle.net_base.proofs.ListLaws.{in_flat_map, in_from_flat_map, in_when, told_from_distinct, distinct_append, distinct_members, distinct_map, distinct_flat_map}
@@ -33,7 +34,7 @@ use Rattle.two_phase.proofs.BandLaws.{header, covers_as, covers_from, names_it, 
 use Rattle.two_phase.proofs.SweepLaws.{IsSweep}
 use Rattle.update_model.proofs.MatchLaws.{some_filter}
 use Rattle.net_base.proofs.ItemLaws.{distinct_first}
-use Rattle.tag_allocator.proofs.TagLaws.{numbers_below, numbers_distinct, in_numbers}
+use Rattle.net_base.proofs.NumberLaws.{numbers_below, numbers_distinct, in_numbers}
 use Rattle.flow_rules.proofs.OverlapLaws.{base_in}
 
 -- some port, and some VLAN, that a test admits

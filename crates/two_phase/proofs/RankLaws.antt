@@ -11,10 +11,10 @@ use Rattle.flow_rules.specs.Tables.{rules_at}
 use Rattle.flow_rules.specs.declared.rules.Rule.{Rule}
 use Rattle.dest_classes.specs.Classes.{with_number, ascending_numbers}
 use Rattle.dest_classes.proofs.ClassLaws.{in_ascending}
-use Rattle.tag_allocator.specs.Tags.{numbers_from}
+use Rattle.net_base.specs.Numbers.{numbers_from}
 use Rattle.two_phase.specs.TwoPhasePlan.{ingress_rules, switches, ranks}
 use Rattle.net_base.proofs.ListLaws.{in_flat_map}
-use Rattle.tag_allocator.proofs.TagLaws.{in_numbers}
+use Rattle.net_base.proofs.NumberLaws.{in_numbers}
 use Rattle.dest_classes.proofs.RisingLaws.{in_from_with}
 use Rattle.two_phase.proofs.LayerLaws.{IsChained, IsLayering}
 

@@ -15,8 +15,8 @@ use Rattle.flow_rules.specs.Tables.{IsTable, rules_at}
 use Rattle.dest_classes.specs.Classes.{ascending_numbers}
 use Rattle.dest_classes.proofs.ClassLaws.{in_ascending}
 use Rattle.dest_classes.proofs.RisingLaws.{in_from_ascending, rises_ascending, same_rising}
-use Rattle.tag_allocator.specs.Tags.{numbers_from}
-use Rattle.tag_allocator.proofs.TagLaws.{numbers_more, numbers_length}
+use Rattle.net_base.specs.Numbers.{numbers_from}
+use Rattle.net_base.proofs.NumberLaws.{numbers_more, numbers_length}
 use Rattle.update_model.specs.declared.Change.{Change}
 use Rattle.two_phase.specs.TwoPhasePlan.{ingress_rules, in_key_order, switches, ranks}
 use Rattle.two_phase.specs.SwitchRules.{AreOrdered}

@@ -19,8 +19,8 @@ use Rattle.update_model.specs.Mixtures.{is_insert}
 use Rattle.update_model.specs.Remaining.{remaining_changes}
 use Rattle.update_model.specs.declared.Change.{Change}
 use Rattle.update_model.specs.declared.Change.TheVariants.{Insert, Delete}
-use Rattle.tag_allocator.specs.Tags.{numbers_from}
-use Rattle.tag_allocator.proofs.TagLaws.{numbers_length, numbers_below}
+use Rattle.net_base.specs.Numbers.{numbers_from}
+use Rattle.net_base.proofs.NumberLaws.{numbers_length, numbers_below}
 use Rattle.table_difference.specs.Tried.{AreTried}
 use Rattle.two_phase.specs.Laws.{FitsTwoPhase}
 use Rattle.two_phase.specs.TwoPhasePlan.{tagged_rules, ingress_rules, with_rule, in_key_order, switches, by_switch, ranks, of_mark, layered_rounds}

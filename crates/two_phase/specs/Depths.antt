@@ -9,7 +9,7 @@ use Rattle.demands.specs.Duties.{DemandView}
 use Rattle.update_model.specs.declared.Change.{Change}
 use Rattle.certificates.specs.Updates.{Task}
 use Rattle.certificates.specs.declared.Plan.{Plan}
-use Rattle.tag_allocator.specs.Tags.{numbers_from}
+use Rattle.net_base.specs.Numbers.{numbers_from}
 use Rattle.two_phase.specs.TwoPhasePlan.{ingress_rules, layered_rounds, switches}
 use Rattle.two_phase.specs.Laws.{task_by}
 use Rattle.two_phase.specs.Plans.{layered_plan, IsCertifiedWith}

@@ -27,7 +27,8 @@ use Rattle.update_model.specs.declared.Change.TheVariants.{Insert, Delete}
 use Rattle.certificates.specs.declared.Label.{Label}
 use Rattle.certificates.specs.declared.LabelPick.{LabelPick}
 use Rattle.table_difference.specs.SameClasses.{every_address}
-use Rattle.tag_allocator.specs.Tags.{Tagged, tags_of, numbers_from}
+use Rattle.net_base.specs.Numbers.{numbers_from}
+use Rattle.tag_allocator.specs.Tags.{Tagged, tags_of}
 use Rattle.dest_classes.specs.Classes.{ascending_numbers}
 
 -- what is at a port of a switch

@@ -1,7 +1,8 @@
 use Rattle.std.proofs.Common.{◌≡◌, ◌-◌}
 use Rattle.std.specs.Prelude.{filter, not}
 use Rattle.std.specs.List.{list_any}
-use Rattle.tag_allocator.specs.Tags.{has_id, numbers_from}
+use Rattle.net_base.specs.Numbers.{numbers_from}
+use Rattle.tag_allocator.specs.Tags.{has_id}
 use Rattle.tag_allocator.proofs.free_ids.Given as goal
 
 abbrev pub invariant-loop-id : goal.invariant-loop-id

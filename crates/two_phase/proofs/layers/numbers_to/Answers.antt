@@ -1,6 +1,6 @@
 use Rattle.std.proofs.Common.{◌≡◌, ℕ, suc, ◌+◌, ◌∷◌, [], ◌++◌, List, sym, ◌∙◌, ap, arith}
-use Rattle.tag_allocator.specs.Tags.{numbers_from}
-use Rattle.tag_allocator.proofs.TagLaws.{numbers_more}
+use Rattle.net_base.specs.Numbers.{numbers_from}
+use Rattle.net_base.proofs.NumberLaws.{numbers_more}
 use Rattle.two_phase.proofs.layers.numbers_to.Goals as goal
 
 pub loop-number-preserved : goal.loop-number-preserved

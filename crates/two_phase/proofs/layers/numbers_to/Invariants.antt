@@ -1,5 +1,5 @@
 use Rattle.std.proofs.Common.{◌≡◌, suc}
-use Rattle.tag_allocator.specs.Tags.{numbers_from}
+use Rattle.net_base.specs.Numbers.{numbers_from}
 use Rattle.two_phase.proofs.layers.numbers_to.Given as goal
 
 abbrev pub invariant-loop-number : goal.invariant-loop-number

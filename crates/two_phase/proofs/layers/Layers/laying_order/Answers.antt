@@ -1,7 +1,7 @@
 use Rattle.std.proofs.Common.{suc, ◌∙◌, ap}
 use Rattle.std.specs.Prelude.{reverse}
 use Rattle.std.proofs.lemmas.Result.{IfOk-weaker}
-use Rattle.tag_allocator.specs.Tags.{numbers_from}
+use Rattle.net_base.specs.Numbers.{numbers_from}
 use Rattle.two_phase.proofs.SwitchLaws.{ranks_are}
 use Rattle.two_phase.proofs.DeepLaws.{greatest_is}
 use Rattle.two_phase.proofs.layers.Layers.laying_order.Goals as goal
