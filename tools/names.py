@@ -3,7 +3,8 @@
 holds them against tools/shared_names.txt, a list that may only shrink: a name that isn't listed stands in one crate, and one that is listed in no
 others than are listed.
 
-    tools/names.py            prints each, with where it stands and what is said of it there; first those that stand in most files
+    tools/names.py            prints each, with where it stands and what is said of it there; first those that most crates name that stand on two of its
+                              crates, so that a reader there has to know which is meant
     tools/names.py --check    prints where a name stands in more crates than are listed, or in fewer, and fails where it prints something
     tools/names.py --write    writes the list anew
 
@@ -14,6 +15,7 @@ import re
 import sys
 
 import making
+import picture
 
 LISTED = "tools/shared_names.txt"
 HEAD = """\
@@ -91,16 +93,29 @@ def differences(found, listed):
     return said
 
 
-def listing(shared, files):
-    """Returns a line for each name and each of its places; first the names that stand in most files."""
-    counts = dict.fromkeys(shared, 0)
-    for _, _, text in files:
-        for name in set(WORD.findall(MODULE.sub("", text))) & counts.keys():
-            counts[name] += 1
+def below(libraries):
+    """Returns of each crate itself and all on which it stands, from the libraries that each lists, where a crate stands behind those on which it stands."""
+    found = {}
+    for crate, listed in libraries.items():
+        found[crate] = {crate}.union(*(found.get(it, ()) for it in listed))
+    return found
+
+
+def listing(shared, files, libraries):
+    """Returns a line for each name and each of its places; first the names that most crates name that stand on two of the places' crates."""
+    named, reach = {name: {} for name in shared}, below(libraries)
+    for crate, _, text in files:
+        for name in set(WORD.findall(MODULE.sub("", text))) & named.keys():
+            named[name][crate] = named[name].get(crate, 0) + 1
+    rows = []
+    for name, places in shared.items():
+        own = {it.crate for it in places}
+        between = sum(len(own & reach.get(crate, set())) > 1 for crate in named[name])
+        rows.append((-between, -sum(named[name].values()), name))
     lines = []
-    for name, places in sorted(shared.items(), key=lambda it: (-counts[it[0]], it[0])):
-        lines.append(f"{name}, in {counts[name]} files")
-        lines += [f"    {it.file}: {it.said}" for it in places]
+    for between, count, name in sorted(rows):
+        lines.append(f"{name}: {-between} crates stand on two that have it, {-count} files name it")
+        lines += [f"    {it.file}: {it.said}" for it in shared[name]]
     return lines
 
 
@@ -118,7 +133,8 @@ def main(words):
     if words:
         print(__doc__, file=sys.stderr)
         return 2
-    print(*listing(shared, files), sep="\n")
+    libraries = {name: listed for _, crates in picture.families_in(making.read("crates.txt")) for name, listed in crates.items()}
+    print(*listing(shared, files, libraries), sep="\n")
     return 0
 
 

@@ -66,11 +66,14 @@ class Declared(unittest.TestCase):
         role = ("three", "crates/three/specs/Lib.antt", "abbrev pub names_in : ℕ\n")
         self.assertEqual(names.crates_of(names.shared_in([*FILES, other, role])), {"Place": ["one", "two"]})
 
-    def test_the_name_that_stands_in_most_files_is_first(self):
-        more = [("two", f"crates/two/specs/{it}.antt", text) for it, text in (("A", "-- a\nabbrev pub AreKept : ℕ\npub data Kind : ℕ"), ("B", "of Kind"), ("C", "Rattle.two.AreKept.{x}"))]
-        self.assertEqual(names.listing(names.shared_in(FILES + more), FILES + more), [
-            "Kind, in 3 files", "    crates/one/specs/Places.antt: ", "    crates/two/specs/A.antt: ",
-            "AreKept, in 2 files", "    crates/one/specs/Places.antt: ", "    crates/two/specs/A.antt: a",
+    def test_the_name_between_which_most_crates_stand_is_first(self):
+        more = [("two", "crates/two/specs/A.antt", "-- a\nabbrev pub AreKept : ℕ\npub data Kind : ℕ\npub data Step : ℕ"), ("three", "crates/three/specs/B.antt", "Kind AreKept.{x}"),
+                ("four", "crates/four/specs/C.antt", "Kind Rattle.two.AreKept.{x}"), ("four", "crates/four/specs/D.antt", "Step")]
+        files, libraries = FILES + more, {"one": [], "two": ["json"], "three": ["one", "two"], "four": ["three"], "five": ["two"]}
+        self.assertEqual(names.listing(names.shared_in(files), files, libraries), [
+            "Kind: 2 crates stand on two that have it, 4 files name it", "    crates/one/specs/Places.antt: ", "    crates/two/specs/A.antt: ",
+            "Step: 1 crates stand on two that have it, 4 files name it", "    crates/one/src/lib.rt: ", "    crates/two/specs/A.antt: ",
+            "AreKept: 1 crates stand on two that have it, 3 files name it", "    crates/one/specs/Places.antt: ", "    crates/two/specs/A.antt: a",
         ])
 
 
