@@ -8,6 +8,7 @@ promises is made by tools/promises.py. And tools/crate_seconds.txt names no crat
 import re
 import sys
 
+import build
 import commands
 import making
 from command_table import ROWS
@@ -42,11 +43,6 @@ def clauses_of(code):
     return re.findall(r"(?m)^    ensures (\w+) \{", head)
 
 
-def crates_in(text):
-    """Returns the crates of crates.txt, or those of tools/crate_seconds.txt, from their texts."""
-    return [re.split(r"[:\s]", line)[0] for line in text.splitlines() if line.strip() and not line.startswith("#")]
-
-
 def said_of_rows(crates, rows, text_of_crate):
     """Returns what is wrong with the rows of crates, a sentence each."""
     commands_of = {commands.crate_of(it): it.name for it in ROWS if it.kind == "answers"}
@@ -62,8 +58,8 @@ def said_of_rows(crates, rows, text_of_crate):
 
 
 def main():
-    page, measured = making.read("docs/PROVED.md"), crates_in(making.read("tools/crate_seconds.txt"))
-    crates = [it for it in crates_in(making.read("crates.txt")) if not it.endswith("_tests")]
+    page, measured = making.read("docs/PROVED.md"), build.read_seconds(making.read("tools/crate_seconds.txt"))
+    crates = [it for it in build.read_crates(making.read("crates.txt")) if not it.endswith("_tests")]
     said = said_of_rows(crates, rows_in(page), text_of) + [f"tools/crate_seconds.txt has seconds for {it}, which is no crate" for it in measured if it not in crates]
     clauses = [it for _, _, code in making.files_of(("src",), crates=crates) for it in clauses_of(code)]
     cells = clause_cells(page)

@@ -14,8 +14,8 @@ that tells its value stand in one crate, and are one thing.
 import re
 import sys
 
+import build
 import making
-import picture
 
 LISTED = "tools/shared_names.txt"
 HEAD = """\
@@ -133,8 +133,7 @@ def main(words):
     if words:
         print(__doc__, file=sys.stderr)
         return 2
-    libraries = {name: listed for _, crates in picture.families_in(making.read("crates.txt")) for name, listed in crates.items()}
-    print(*listing(shared, files, libraries), sep="\n")
+    print(*listing(shared, files, build.read_crates(making.read("crates.txt"))), sep="\n")
     return 0
 
 

@@ -55,10 +55,6 @@ class Ledger(unittest.TestCase):
         self.assertEqual(ledger.said_of_rows(["net_base"], ledger.rows_in(TEXT), lambda crate: "read_decimal"),
                          ["the row of net_base names decimal_in, which isn't in its src or specs"])
 
-    def test_crates_of_lists(self):
-        self.assertEqual(ledger.crates_in("# of crates\n\nnet_base: json\nflow_rules:\n"), ["net_base", "flow_rules"])
-        self.assertEqual(ledger.crates_in("# seconds\nnet_base 51\n"), ["net_base"])
-
     def test_the_ledger_holds(self):
         self.assertEqual(ledger.main(), 0)
 
