@@ -6,7 +6,7 @@
 
 A line `@each KIND TEXT` of a template, or a run of such lines, stands for the text once for each command of that kind: `answers`, `serves`,
 `reads_none`, `reads` for the first two, nothing for all. In a text `%word%` is what `fields` gives for the command; `%word%` elsewhere is what
-`lists` gives for all.
+`lists` gives for all. Lines between `@block NAME` and `@end` stand where a line `@put NAME` is, so that what several functions promise is named once.
 """
 import re
 import sys
@@ -130,6 +130,22 @@ def filled(text, values):
     return re.sub(r"%(\w+)%", lambda found: values[found[1]], text)
 
 
+def with_blocks(template):
+    """Returns the lines of a template with its blocks put in their places."""
+    blocks, lines, name = {}, [], None
+    for line in template.splitlines():
+        word, _, rest = line.partition(" ")
+        if word == "@block":
+            name, blocks[rest] = rest, []
+        elif word == "@end":
+            name = None
+        elif word == "@put":
+            lines += blocks[rest]
+        else:
+            (lines if name is None else blocks[name]).append(line)
+    return lines
+
+
 def written(template, rows=ROWS):
     """Returns the text of a file, from the text of its template."""
     said, block, kind, of_all = [], [], "", lists(rows)
@@ -140,7 +156,7 @@ def written(template, rows=ROWS):
                 said.extend(filled(it, fields(row, rows)) for it in block)
         block.clear()
 
-    for line in template.splitlines():
+    for line in with_blocks(template):
         found = EACH.match(line)
         if not found or (found[1] or "") != kind:
             end_block()

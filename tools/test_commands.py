@@ -22,6 +22,10 @@ class Templates(unittest.TestCase):
         template = "first %Names%\n@each reads %Name%(\n@each reads )\n@each reads_none %name%\nlast\n"
         self.assertEqual(commands.written(template, ROWS), "first Check, Simulate, Serve, Sample\nCheck(\n)\nSimulate(\n)\nServe(\n)\nsample\nlast\n")
 
+    def test_a_block_of_several_functions_stands_in_each(self):
+        template = "@block ends\n    all %Told%\n@each serves     %Name%\n@end\none\n@put ends\ntwo\n@put ends\n"
+        self.assertEqual(commands.written(template, ROWS), "".join(f"{it}\n    all Check, Simulate, Sample\n    Serve\n" for it in ("one", "two")))
+
     def test_numbers_among_the_names_are_given_to_the_answer(self):
         template = "@each answers Of%Name% : %before%%Meaning%; %Answer%; %OfIn%; %dialogue%; (λ %m%. Of%Name% %given%%m%)\n"
         self.assertEqual(commands.written(template, ROWS).splitlines(), [
