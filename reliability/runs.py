@@ -8,6 +8,10 @@ import sys
 import tempfile
 
 ROOT = pathlib.Path(__file__).resolve().parent.parent
+sys.path.insert(0, str(ROOT / "planner_tools" / "tests"))
+
+import usual  # noqa: E402
+
 LIBRARY_SOURCE = ROOT / "reliability" / "refuse.c"
 INPUT = """feed s1 0100000800000000
 feed s3 0100000800000000
@@ -49,7 +53,7 @@ def update(name, *more):
 
 
 def example_commands():
-    """Each command over the example files, as lists of words, but `serve`, which serve.py is about."""
+    """Each command over the example files, as lists of words, but `serve`, which serve.py is about. One that isn't named here has a usual run."""
     commands = []
     for name in ("square", "detour"):
         topology, plan = f"{name}/topology.json", f"{name}/plan.json"
@@ -79,7 +83,7 @@ def example_commands():
         ["drive", *update("square", "plan.json", "input")],
         ["sample", "4"],
     ]
-    return commands
+    return commands + usual.of_others(commands, "square/")
 
 
 def title(words):

@@ -6,15 +6,14 @@
 
 A line `@each KIND TEXT` of a template, or a run of such lines, stands for the text once for each command of that kind: `answers`, `serves`,
 `reads_none`, `reads` for the first two, nothing for all. In a text `%word%` is what `fields` gives for the command; `%word%` elsewhere is what
-`lists` gives for all.
+`lists` gives for all. Lines between `@block NAME` and `@end` stand where a line `@put NAME` is, so that what several functions promise is named once.
 """
-import os
 import re
 import sys
 
+import making
 from command_table import MEANINGS, ROWS, WORDS
 
-ROOT = os.path.dirname(os.path.dirname(os.path.realpath(__file__)))
 CRATE = "crates/planner_run"
 # The template of each file.
 FILES = {
@@ -131,6 +130,22 @@ def filled(text, values):
     return re.sub(r"%(\w+)%", lambda found: values[found[1]], text)
 
 
+def with_blocks(template):
+    """Returns the lines of a template with its blocks put in their places."""
+    blocks, lines, name = {}, [], None
+    for line in template.splitlines():
+        word, _, rest = line.partition(" ")
+        if word == "@block":
+            name, blocks[rest] = rest, []
+        elif word == "@end":
+            name = None
+        elif word == "@put":
+            lines += blocks[rest]
+        else:
+            (lines if name is None else blocks[name]).append(line)
+    return lines
+
+
 def written(template, rows=ROWS):
     """Returns the text of a file, from the text of its template."""
     said, block, kind, of_all = [], [], "", lists(rows)
@@ -141,7 +156,7 @@ def written(template, rows=ROWS):
                 said.extend(filled(it, fields(row, rows)) for it in block)
         block.clear()
 
-    for line in template.splitlines():
+    for line in with_blocks(template):
         found = EACH.match(line)
         if not found or (found[1] or "") != kind:
             end_block()
@@ -160,30 +175,11 @@ def with_libraries(text, rows=ROWS):
     return re.sub(r"(?m)^planner_run:.*$", f"planner_run: {' '.join(found)}", text)
 
 
-def read(path):
-    with open(f"{ROOT}/{path}", encoding="utf-8") as file:
-        return file.read()
-
-
 def texts():
     """Returns the texts that the files are to have, by their paths."""
-    found = {path: written(read(f"tools/templates/{template}")) for path, template in FILES.items()}
-    return {**found, "crates.txt": with_libraries(read("crates.txt"))}
-
-
-def main(words):
-    if words not in ([], ["--check"]):
-        print(__doc__, file=sys.stderr)
-        return 2
-    others = {path: text for path, text in texts().items() if read(path) != text}
-    for path, text in others.items():
-        if words:
-            print(f"commands: {path} isn't what tools/commands.py writes", file=sys.stderr)
-            continue
-        with open(f"{ROOT}/{path}", "w", encoding="utf-8") as file:
-            file.write(text)
-    return 1 if words and others else 0
+    found = {path: written(making.read(f"tools/templates/{template}")) for path, template in FILES.items()}
+    return {**found, "crates.txt": with_libraries(making.read("crates.txt"))}
 
 
 if __name__ == "__main__":
-    sys.exit(main(sys.argv[1:]))
+    sys.exit(making.run("commands", sys.argv[1:], __doc__, lambda: (texts(), [])))

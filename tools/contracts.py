@@ -7,12 +7,12 @@ and what contracts see of a type and keep of it (its ghost view and invariant).
     tools/contracts.py --check    prints where a crate has more, or fewer, than is listed, and fails where it prints something
     tools/contracts.py --write    writes the list anew
 """
-import os
 import re
 import sys
 
-ROOT = os.path.dirname(os.path.dirname(os.path.realpath(__file__)))
-LISTED = f"{ROOT}/tools/long_contracts.txt"
+import making
+
+LISTED = "tools/long_contracts.txt"
 MOST_COLUMNS, MOST_ARGUMENTS = 100, 6
 CLAUSE = re.compile(r"\s*((requires|ensures)\*?|ghost (view|invariant))\b.*\{")
 FUNCTION = re.compile(r"\bfn\s+(\w+)\s*(?=[<(])")
@@ -62,24 +62,13 @@ def wide_functions(code):
     return [it[1] for it in FUNCTION.finditer(bare) if arguments_of(bare, behind_generics(bare, it.end()) + 1) > MOST_ARGUMENTS]
 
 
-def sources(crate):
-    """Yields the path and the text of each source file of a crate."""
-    for at, _, names in sorted(os.walk(f"{ROOT}/crates/{crate}/src")):
-        for name in sorted(names):
-            if name.endswith(".rt"):
-                with open(f"{at}/{name}", encoding="utf-8") as file:
-                    yield os.path.relpath(f"{at}/{name}", ROOT), file.read()
-
-
 def counted():
     """Returns for each crate that has some how many long lines and how many wide functions it has."""
     found = {}
-    for crate in sorted(os.listdir(f"{ROOT}/crates")):
-        texts = [text for _, text in sources(crate)]
-        counts = sum(len(long_lines(it)) for it in texts), sum(len(wide_functions(it)) for it in texts)
-        if counts != (0, 0):
-            found[crate] = counts
-    return found
+    for crate, _, text in making.files_of(("src",)):
+        lines, functions = found.get(crate, (0, 0))
+        found[crate] = lines + len(long_lines(text)), functions + len(wide_functions(text))
+    return {crate: counts for crate, counts in found.items() if counts != (0, 0)}
 
 
 def read_listed(text):
@@ -102,21 +91,19 @@ def differences(found, listed):
 
 def main(words):
     if words == ["--write"]:
-        with open(LISTED, "w", encoding="utf-8") as file:
+        with open(f"{making.ROOT}/{LISTED}", "w", encoding="utf-8") as file:
             file.write("# Crates whose contracts aren't broken into lines of 100 columns yet: so many long lines, so many functions of more than six arguments.\n")
             file.writelines(f"{crate} {lines} {functions}\n" for crate, (lines, functions) in counted().items())
         return 0
     if words == ["--check"]:
-        with open(LISTED, encoding="utf-8") as file:
-            said = differences(counted(), read_listed(file.read()))
+        said = differences(counted(), read_listed(making.read(LISTED)))
         print(*[f"contracts: {it}" for it in said], sep="\n", end="\n" * bool(said), file=sys.stderr)
         return 1 if said else 0
-    for crate in sorted(os.listdir(f"{ROOT}/crates")):
-        for path, text in sources(crate):
-            for number in long_lines(text):
-                print(f"{path}:{number}: {len(text.splitlines()[number - 1])} columns")
-            for name in wide_functions(text):
-                print(f"{path}: {name}")
+    for _, path, text in making.files_of(("src",)):
+        for number in long_lines(text):
+            print(f"{path}:{number}: {len(text.splitlines()[number - 1])} columns")
+        for name in wide_functions(text):
+            print(f"{path}: {name}")
     return 0
 
 

@@ -7,10 +7,10 @@
 Only where a switch stands in the drawing is said here. All else is the example's.
 """
 import json
-import os
 import sys
 
-ROOT = os.path.dirname(os.path.dirname(os.path.realpath(__file__)))
+import making
+
 # Of each example: the width and the height, the prefix whose rules are drawn, the middle of each switch, where its host ports lie from there, and by
 # how much a link bends aside.
 LAYOUTS = {
@@ -36,11 +36,6 @@ LAYOUTS = {
 }
 BOX = (34, 20)
 OLD, NEW, BOTH = "#c2570c", "#1d4ed8", "#374151"
-
-
-def read(path):
-    with open(f"{ROOT}/{path}", encoding="utf-8") as it:
-        return json.load(it)
 
 
 def port_of(switch, number):
@@ -110,8 +105,8 @@ def label(x, y, text, style=""):
 class Drawing:
     def __init__(self, name):
         folder, self.layout = f"examples/{name}", LAYOUTS[name]
-        self.topology = read(f"{folder}/topology.json")
-        self.old, self.new = (outputs(read(f"{folder}/{it}.json"), self.layout["prefix"]) for it in ("old", "new"))
+        self.topology = json.loads(making.read(f"{folder}/topology.json"))
+        self.old, self.new = (outputs(json.loads(making.read(f"{folder}/{it}.json")), self.layout["prefix"]) for it in ("old", "new"))
         self.ends, self.places = ends_of(self.topology), self.layout["switches"]
         self.bends = {}
         for (one, other), much in self.layout.get("bends", {}).items():
@@ -186,22 +181,5 @@ class Drawing:
         return "\n".join([head, *body, *self.links(), *self.arrows(), *self.ports(), *self.switches(), *self.legend(), "</svg>"]) + "\n"
 
 
-def main(words):
-    if words not in ([], ["--check"]):
-        print(__doc__, file=sys.stderr)
-        return 2
-    stale = []
-    for name in LAYOUTS:
-        file, text = f"{ROOT}/docs/{name}.svg", Drawing(name).text()
-        if not words:
-            with open(file, "w", encoding="utf-8") as it:
-                it.write(text)
-        elif not os.path.isfile(file) or open(file, encoding="utf-8").read() != text:
-            stale.append(f"docs/{name}.svg")
-    if stale:
-        print(f"draw: not what the examples make, run python3 tools/draw.py: {' '.join(stale)}", file=sys.stderr)
-    return 1 if stale else 0
-
-
 if __name__ == "__main__":
-    sys.exit(main(sys.argv[1:]))
+    sys.exit(making.run("draw", sys.argv[1:], __doc__, lambda: ({f"docs/{it}.svg": Drawing(it).text() for it in LAYOUTS}, [])))

@@ -12,7 +12,8 @@ import os
 import re
 import sys
 
-ROOT = os.path.dirname(os.path.dirname(os.path.realpath(__file__)))
+import making
+
 PAGE = "docs/HEADLINE.md"
 # The parts of the page: a title, what it has, and the definitions that it begins with.
 PARTS = (
@@ -476,10 +477,7 @@ def with_counts(readme, rows):
     """Returns the text of README.md with the counts of the parts between their marks: definitions, and their lines in brackets."""
     parts = [f"{definitions} ({lines}) for {title[0].lower()}{title[1:]}" for title, definitions, lines, *_ in rows[:-1]]
     declared = f"and {rows[-1][3]} types that the code declares"
-    text, found = re.subn(r"<!-- counts -->.*?<!-- /counts -->", f"<!-- counts -->{', '.join([*parts, declared])}<!-- /counts -->", readme, flags=re.S)
-    if found != 1:
-        raise LookupError("README.md has no marks <!-- counts --> and <!-- /counts --> around the counts")
-    return text
+    return making.with_part(readme, "counts", ", ".join([*parts, declared]), "README.md")
 
 
 def main(words):
@@ -487,20 +485,16 @@ def main(words):
         print(__doc__, file=sys.stderr)
         return 2
     try:
-        text, rows, untold = page(Specs(ROOT))
-        wanted = {PAGE: text, "README.md": with_counts(read(f"{ROOT}/README.md"), rows)}
+        text, rows, untold = page(Specs(making.ROOT))
+        wanted = {PAGE: text, "README.md": with_counts(making.read("README.md"), rows)}
     except LookupError as it:
         print(f"headline: {it}", file=sys.stderr)
         return 1
-    stale = [file for file, made in wanted.items() if not os.path.isfile(f"{ROOT}/{file}") or read(f"{ROOT}/{file}") != made]
-    if words and stale:
-        print(f"headline: {' and '.join(stale)}: not what the definitions make, run python3 tools/headline.py", file=sys.stderr)
+    others = making.settle("headline", wanted, bool(words))
+    if words and others:
         return 1
-    for file in stale:
-        with open(f"{ROOT}/{file}", "w", encoding="utf-8") as it:
-            it.write(wanted[file])
-        for it in untold:
-            print(f"headline: WORDS in tools/headline.py doesn't say what {it} means", file=sys.stderr)
+    for it in untold if others else ():
+        print(f"headline: WORDS in tools/headline.py doesn't say what {it} means", file=sys.stderr)
     for title, definitions, lines, types, type_lines, files in rows:
         print(f"headline: {title}: {definitions} definitions in {lines} lines, {types} declared types in {type_lines} lines, {files} files")
     return 0

@@ -1,19 +1,17 @@
 #!/usr/bin/env python3
 """Holds docs/PROVED.md against the crates: prints what the ledger lacks, and what it names that isn't there, and fails where it prints something.
 
-Each crate of crates.txt has a row, but for those of tests alone (NAME_tests), and stands in the picture of docs/MAP.md. Each name that a row has in
-backticks stands in src/ or specs/ of its crate. And each clause of `run` has a row in the table of the top call.
+Each crate of crates.txt has a row, but for those of tests alone (NAME_tests) and those of commands (NAME_command), of which the ledger says the same.
+Each name that a row has in backticks stands in src/ or specs/ of its crate. Each clause of `run` has a row in a table of the top call; that of the
+promises is made by tools/promises.py. And tools/crate_seconds.txt names no crate that is gone.
 """
-import os
 import re
 import sys
 
-ROOT = os.path.dirname(os.path.dirname(os.path.realpath(__file__)))
-
-
-def read(path):
-    with open(path, encoding="utf-8") as it:
-        return it.read()
+import build
+import commands
+import making
+from command_table import ROWS
 
 
 def rows_in(text):
@@ -28,15 +26,14 @@ def names_in(cell):
 
 
 def clause_cells(text):
-    """Returns the last cells of the rows of the table of the top call, in one text."""
+    """Returns the first cells of the rows of the tables of the top call, in one text."""
     section = text.partition("## The top call")[2].partition("\n## ")[0]
-    return "\n".join(re.findall(r"(?m)^\| .* \| (.*) \|$", section))
+    return "\n".join(re.findall(r"(?m)^\| ([^|]*) \|", section))
 
 
 def text_of(crate):
     """Returns all code and definitions of a crate."""
-    folders = [f"{ROOT}/crates/{crate}/{part}" for part in ("src", "specs")]
-    return "\n".join(read(f"{at}/{it}") for folder in folders for at, _, names in os.walk(folder) for it in names)
+    return "\n".join(text for _, _, text in making.files_of(("src", "specs"), crates=[crate]))
 
 
 def clauses_of(code):
@@ -46,22 +43,29 @@ def clauses_of(code):
     return re.findall(r"(?m)^    ensures (\w+) \{", head)
 
 
+def said_of_rows(crates, rows, text_of_crate):
+    """Returns what is wrong with the rows of crates, a sentence each."""
+    commands_of = {commands.crate_of(it): it.name for it in ROWS if it.kind == "answers"}
+    said = [f"{it} has no row" for it in crates if it not in rows and it not in commands_of]
+    said += [f"{it} has a row and is no crate" for it in rows if it not in crates]
+    for crate in crates:
+        name = commands_of.get(crate)
+        wanted = [name, "meets", f"{name}_promised", f"{name.title()}Promise"] if name else []
+        text = text_of_crate(crate) if wanted or rows.get(crate) else ""
+        said += [f"{crate} has no {it}, which the ledger says of each command" for it in wanted if not re.search(rf"\b{it}\b", text)]
+        said += [f"the row of {crate} names {it}, which isn't in its src or specs" for it in names_in(rows.get(crate, "")) if not re.search(rf"\b{it}\b", text)]
+    return said
+
+
 def main():
-    ledger, faults = read(f"{ROOT}/docs/PROVED.md"), []
-    crates = [line.partition(":")[0].split()[0] for line in read(f"{ROOT}/crates.txt").splitlines() if ":" in line.partition("#")[0]]
-    rows = rows_in(ledger)
-    faults += [f"{it} has no row" for it in crates if it not in rows and not it.endswith("_tests")]
-    faults += [f"{it} has a row and is no crate" for it in rows if it not in crates]
-    drawn = re.findall(r"\w+", read(f"{ROOT}/docs/MAP.md").split("```")[1])
-    faults += [f"{it} isn't in the picture of docs/MAP.md" for it in crates if it not in drawn and not it.endswith("_tests")]
-    for crate in filter(rows.get, crates):
-        text = text_of(crate)
-        faults += [f"the row of {crate} names {it}, which isn't in its src or specs" for it in names_in(rows[crate]) if not re.search(rf"\b{it}\b", text)]
-    clauses = [it for crate in crates for file in os.listdir(f"{ROOT}/crates/{crate}/src") if file.endswith(".rt") for it in clauses_of(read(f"{ROOT}/crates/{crate}/src/{file}"))]
-    cells = clause_cells(ledger)
-    faults += [f"the clause {it} of run has no row in the table of the top call" for it in clauses if it not in names_in(cells)]
-    print(*[f"ledger: {it}" for it in faults], sep="\n", end="\n" * bool(faults), file=sys.stderr)
-    return 1 if faults else 0
+    page, measured = making.read("docs/PROVED.md"), build.read_seconds(making.read("tools/crate_seconds.txt"))
+    crates = [it for it in build.read_crates(making.read("crates.txt")) if not it.endswith("_tests")]
+    said = said_of_rows(crates, rows_in(page), text_of) + [f"tools/crate_seconds.txt has seconds for {it}, which is no crate" for it in measured if it not in crates]
+    clauses = [it for _, _, code in making.files_of(("src",), crates=crates) for it in clauses_of(code)]
+    cells = clause_cells(page)
+    said += [f"the clause {it} of run has no row in a table of the top call" for it in clauses if it not in names_in(cells)]
+    print(*[f"ledger: {it}" for it in said], sep="\n", end="\n" * bool(said), file=sys.stderr)
+    return 1 if said else 0
 
 
 if __name__ == "__main__":

@@ -11,7 +11,8 @@ import os
 import re
 import sys
 
-ROOT = os.path.dirname(os.path.dirname(os.path.realpath(__file__)))
+import making
+
 PASSED_OVER = {"Answers.antt", "Invariants.antt", "Proof.antt", "Rows.antt", "RunRows.antt"}
 HEAD = re.compile(r"(?:(?:pub|abbrev|unfoldable|opaque)\s+)*([^\s(){},:=]+)\s*(?:\{[^}]*\}\s*)*:(?=\s)")
 USE = re.compile(r"(?:pub\s+)?use\b")
@@ -57,23 +58,11 @@ def uncited(files):
     return [(path, name, len(own.strip().split("\n"))) for path, name, own in lemmas if words[name] == WORD.findall(own).count(name)]
 
 
-def read_all(root):
-    """Returns the texts of all code, definitions and proofs, by their paths."""
-    found = {}
-    for crate in sorted(os.listdir(f"{root}/crates")):
-        for part in ("src", "specs", "proofs"):
-            for at, _, names in os.walk(f"{root}/crates/{crate}/{part}"):
-                for name in sorted(names):
-                    with open(f"{at}/{name}", encoding="utf-8") as file:
-                        found[os.path.relpath(f"{at}/{name}", root)] = file.read()
-    return found
-
-
 def main(words):
     if words not in ([], ["--check"]):
         print(__doc__, file=sys.stderr)
         return 2
-    found = uncited(read_all(ROOT))
+    found = uncited({path: text for _, path, text in making.files_of(("src", "specs", "proofs"))})
     for path, name, _ in found:
         print(f"lemmas: {path}: nothing cites {name}")
     if found:

@@ -4,22 +4,13 @@
     tools/manual.py             writes them
     tools/manual.py --check     writes nothing, and fails where one is not what this script makes
 """
-import os
-import re
 import sys
 
-ROOT = os.path.dirname(os.path.dirname(os.path.realpath(__file__)))
-sys.path.insert(0, ROOT)
+import making
+
+sys.path.insert(0, making.ROOT)
 
 from planner_tools import manual  # noqa: E402
-
-# Where the table stands in README.md and docs/TOUR.md.
-TABLE = re.compile(r"(<!-- commands -->\n).*?(<!-- /commands -->\n)", re.S)
-
-
-def read(path):
-    with open(os.path.join(ROOT, path), encoding="utf-8") as file:
-        return file.read()
 
 
 def wanted():
@@ -30,20 +21,8 @@ def wanted():
 
 def with_table(path, table):
     """Returns the text of a document with a table between its marks."""
-    return TABLE.sub(lambda place: place[1] + table + place[2], read(path))
-
-
-def main(options):
-    differing = {path: text for path, text in wanted().items() if read(path) != text}
-    if options == ["--check"]:
-        for path in differing:
-            print(f"{path} isn't what tools/manual.py makes of planner_tools/words.py")
-        return bool(differing)
-    for path, text in differing.items():
-        with open(os.path.join(ROOT, path), "w", encoding="utf-8") as file:
-            file.write(text)
-    return 0
+    return making.with_part(making.read(path), "commands", f"\n{table}", path)
 
 
 if __name__ == "__main__":
-    sys.exit(main(sys.argv[1:]))
+    sys.exit(making.run("manual", sys.argv[1:], __doc__, lambda: (wanted(), [])))

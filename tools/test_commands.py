@@ -2,10 +2,17 @@
 import glob
 import os
 import re
+import sys
 import unittest
 
 import command_table
 import commands
+import making
+import test_words
+
+sys.path.insert(0, os.path.join(making.ROOT, "planner_tools", "tests"))
+from planner_tools import explanations  # noqa: E402
+import usual  # noqa: E402
 
 ROWS = tuple(it for it in command_table.ROWS if it.name in ("check", "simulate", "serve", "sample"))
 
@@ -14,6 +21,10 @@ class Templates(unittest.TestCase):
     def test_a_block_stands_once_for_each_command_of_its_kind(self):
         template = "first %Names%\n@each reads %Name%(\n@each reads )\n@each reads_none %name%\nlast\n"
         self.assertEqual(commands.written(template, ROWS), "first Check, Simulate, Serve, Sample\nCheck(\n)\nSimulate(\n)\nServe(\n)\nsample\nlast\n")
+
+    def test_a_block_of_several_functions_stands_in_each(self):
+        template = "@block ends\n    all %Told%\n@each serves     %Name%\n@end\none\n@put ends\ntwo\n@put ends\n"
+        self.assertEqual(commands.written(template, ROWS), "".join(f"{it}\n    all Check, Simulate, Sample\n    Serve\n" for it in ("one", "two")))
 
     def test_numbers_among_the_names_are_given_to_the_answer(self):
         template = "@each answers Of%Name% : %before%%Meaning%; %Answer%; %OfIn%; %dialogue%; (λ %m%. Of%Name% %given%%m%)\n"
@@ -35,22 +46,22 @@ class Templates(unittest.TestCase):
         )
 
 
-# Where each command has to be named, and how: in its crate of tests, through the top call, in the documents, in the tests of the front end, and among
-# the runs that are attacked.
+# Where each command has to be named, and how: in its crate of tests, through the top call, in the documents, among what is said of wrong files and
+# words, and, of one that reads lines, in the scripts that attack it. The tests of the front end and the attacks run any other command by its usage.
 PLACES = {
     "crates.txt": r"(?m)^\w+_tests:.* %s_command\b",
     "crates/planner_run_tests/src/tests.rt": r'"%s[" ]',
     "docs/FORMATS.md": r"`%s[` ]",
     "docs/TOUR.md": r"\bplanner %s\b",
-    "planner_tools/**/tests/*.py": r'"%s[" ]',
-    "reliability/*.py": r'"%s"',
+    "planner_tools/tests/said.txt": r"(?m)^run %s\b",
 }
+SERVED = {"planner_tools/**/tests/*.py": r'"%s[" ]', "reliability/*.py": r'"%s"'}
 
 
 def text_of(pattern):
     """Returns the texts of all files that the pattern names, one behind the other."""
     texts = []
-    for path in sorted(glob.glob(os.path.join(commands.ROOT, pattern), recursive=True)):
+    for path in sorted(glob.glob(os.path.join(making.ROOT, pattern), recursive=True)):
         with open(path, encoding="utf-8") as file:
             texts.append(file.read())
     return "\n".join(texts)
@@ -58,18 +69,36 @@ def text_of(pattern):
 
 class Repository(unittest.TestCase):
     def test_no_command_is_left_out(self):
-        for place, pattern in PLACES.items():
+        for place, pattern in {**PLACES, **SERVED}.items():
             text = text_of(place)
             for row in command_table.ROWS:
                 with self.subTest(place=place, command=row.name):
-                    self.assertTrue(re.search(pattern.replace("%s", row.name), text), f"{place} has nothing of {row.name}")
+                    is_wanted = place in PLACES or row.kind == "serves"
+                    self.assertTrue(not is_wanted or re.search(pattern.replace("%s", row.name), text), f"{place} has nothing of {row.name}")
+
+    def test_each_command_has_tests_of_its_own(self):
+        for row in command_table.ROWS:
+            with self.subTest(row.name):
+                own = [f"crates/*/src/{row.name}_command_tests.rt", f"crates/{row.name}_command_tests/src/lib.rt"]
+                self.assertTrue(any(text_of(it) for it in own), f"no crate of tests has a module {row.name}_command_tests")
+
+    def test_each_command_has_a_usual_run(self):
+        served = [it.name for it in command_table.ROWS if it.kind == "serves"]
+        self.assertEqual([usual.SERVES], served)
+        for command in test_words.words.PROVED:
+            with self.subTest(command.name):
+                self.assertEqual(usual.words_of(command)[0], command.name)
+
+    def test_the_front_end_knows_each_kind_of_file(self):
+        kinds = re.findall(r'(?m)^kind_name \w+ = codes "(\w+)"', making.read("crates/command_base/specs/Kinds.antt"))
+        self.assertEqual(set(kinds), set(explanations.WORD_OF_KIND))
+        self.assertEqual(set(), set(explanations.WORD_OF_KIND.values()) - set(test_words.words.FILES))
 
     def test_the_files_are_what_is_written(self):
-        self.assertEqual(commands.main(["--check"]), 0)
+        self.assertEqual(making.settle("commands", commands.texts(), True), [])
 
     def test_each_command_of_the_table_is_one_of_the_front_end(self):
-        from test_words import words
-        self.assertEqual({it.name for it in command_table.ROWS}, {it.name for it in words.PROVED})
+        self.assertEqual({it.name for it in command_table.ROWS}, {it.name for it in test_words.words.PROVED})
 
 
 if __name__ == "__main__":

@@ -6,9 +6,10 @@ import ledger
 TEXT = """\
 ## The top call
 
-| In words | Clause of `run`; of a promise, the field |
-|---|---|
-| `plan` does this | `config`: `done`, `says` |
+| Clause of `run` | In words | Field |
+|---|---|---|
+| `config` | `plan` does this | `done` |
+| | and says that | `says` |
 
 ## The crates
 
@@ -45,6 +46,14 @@ class Ledger(unittest.TestCase):
 
     def test_clauses_of_run_alone(self):
         self.assertEqual(ledger.clauses_of(CODE), ["config", "plan"])
+
+    def test_crates_have_rows_and_what_rows_name(self):
+        texts = {"net_base": "decimal_in read_decimal", "trace_command": "fn trace meets fn trace_promised"}
+        self.assertEqual(ledger.said_of_rows(["net_base", "trace_command", "topology"], {**ledger.rows_in(TEXT), "gone": ""}, texts.get), [
+            "topology has no row", "gone has a row and is no crate", "trace_command has no TracePromise, which the ledger says of each command",
+        ])
+        self.assertEqual(ledger.said_of_rows(["net_base"], ledger.rows_in(TEXT), lambda crate: "read_decimal"),
+                         ["the row of net_base names decimal_in, which isn't in its src or specs"])
 
     def test_the_ledger_holds(self):
         self.assertEqual(ledger.main(), 0)

@@ -9,6 +9,7 @@ ROOT = os.path.dirname(os.path.dirname(os.path.realpath(__file__)))
 sys.path.insert(0, ROOT)
 
 from planner_tools import words  # noqa: E402
+import making  # noqa: E402
 import manual  # noqa: E402
 
 
@@ -27,17 +28,17 @@ class Words(unittest.TestCase):
     def test_the_files_are_made_of_the_words(self):
         for path, text in manual.wanted().items():
             with self.subTest(path):
-                self.assertEqual(text, manual.read(path), "tools/manual.py writes it anew")
+                self.assertEqual(text, making.read(path), "tools/manual.py writes it anew")
 
     def test_the_readme_and_the_tour_have_their_tables(self):
-        self.assertIn(manual.manual.table(), manual.read("README.md"))
-        self.assertIn(manual.manual.long_table(), manual.read("docs/TOUR.md"))
+        self.assertIn(manual.manual.table(), making.read("README.md"))
+        self.assertIn(manual.manual.long_table(), making.read("docs/TOUR.md"))
 
     def test_each_command_stands_in_the_readme(self):
         self.assertEqual(set(), set(words.BY_NAME) - {name for _, names in words.WISHES for name in names})
 
     def test_the_readme_is_short(self):
-        self.assertLessEqual(len(manual.read("README.md").partition("## Where to go on")[0].split()), 1200)
+        self.assertLessEqual(len(making.read("README.md").partition("## Where to go on")[0].split()), 1200)
 
     def test_help_has_each_command(self):
         for command in words.COMMANDS:

@@ -263,15 +263,20 @@ def other_ways(update, options, then):
     return then + ("; --back in its place turns the update back" if is_to_turn else "")
 
 
+def add_pace(parser):
+    """Adds the options that say when a round begins, and how long a switch may be away."""
+    parser.add_argument("--wait", metavar="SECONDS", type=float, default=2.0)
+    parser.add_argument("--ask", action="store_true")
+    parser.add_argument("--patience", metavar="SECONDS", type=float, default=60.0)
+
+
 def parser_of_words():
     parser = argparse.ArgumentParser(prog="planner apply", description=__doc__, formatter_class=argparse.RawDescriptionHelpFormatter)
     for name in ("topology", "old", "new", "policy", "plan", "input"):
         parser.add_argument(name, metavar=name.upper())
     parser.add_argument("--switches", metavar="FILE", required=True)
     parser.add_argument("--listen", metavar="HOST:PORT", type=host_and_port)
-    parser.add_argument("--wait", metavar="SECONDS", type=float, default=2.0)
-    parser.add_argument("--ask", action="store_true")
-    parser.add_argument("--patience", metavar="SECONDS", type=float, default=60.0)
+    add_pace(parser)
     parser.add_argument("--resume", action="store_true")
     parser.add_argument("--back", action="store_true")
     parser.add_argument("--recover", action="store_true")

@@ -45,10 +45,10 @@ class Row:
                 with open(path, "wb") as file:
                     file.write(data.replace(more[0], more[1], 1))
 
-    def run(self, program, folder):
+    def run(self, program, folder, **variables):
         """Runs a program in the folder with the words: its status, its text, and what it says."""
-        path = os.pathsep.join([ROOT, os.environ.get("PATH", "")])
-        done = subprocess.run([program, *self.words], cwd=folder, input=self.input, capture_output=True, timeout=SECONDS, check=False, env={**os.environ, "PATH": path})
+        variables = {**os.environ, "PATH": os.pathsep.join([ROOT, os.environ.get("PATH", "")]), **variables}
+        done = subprocess.run([program, *self.words], cwd=folder, input=self.input, capture_output=True, timeout=SECONDS, check=False, env=variables)
         return done.returncode, done.stdout, done.stderr.decode()
 
 

@@ -11,6 +11,7 @@ import tempfile
 import unittest
 
 import rows
+import usual
 
 sys.path.insert(0, rows.ROOT)
 from planner_tools import program  # noqa: E402
@@ -18,6 +19,7 @@ from planner_tools.faults import faults_of  # noqa: E402
 from planner_tools.files import Json, NotJson, read_json  # noqa: E402
 from planner_tools.network import Network, plain  # noqa: E402
 from planner_tools.version import VERSION  # noqa: E402
+from planner_tools.words import PROVED  # noqa: E402
 
 PROGRAM = os.path.abspath(program.path())
 EXAMPLES = os.path.join(rows.ROOT, "examples")
@@ -42,6 +44,8 @@ SQUARE_COMMANDS = [
     "simulate topology.json old.json new.json policy.json plan-at-once.json 0 2", "trace topology.json old.json s1:1 untagged 10.0.0.1",
     "tables topology.json old.json plan.json schedule",
 ]
+# A command that no line above is of has a usual run.
+COMMANDS += map(" ".join, usual.of_others([line.split() for line in COMMANDS + SQUARE_COMMANDS]))
 
 
 def planner(*words, folder=SQUARE, **more):
@@ -63,6 +67,12 @@ class Answers(unittest.TestCase):
             for line in COMMANDS + (SQUARE_COMMANDS if example == "square" else []) if os.path.isdir(folder) else []:
                 with self.subTest(example=example, words=line):
                     self.same(planner(*line.split(), folder=folder), directly(*line.split(), folder=folder))
+
+    def test_each_command_has_a_usual_run(self):
+        for command in PROVED:
+            with self.subTest(command.name):
+                run = usual.words_of(command)
+                self.assertNotEqual(2, directly(*run, stdin=subprocess.DEVNULL).returncode, run)
 
     def test_a_good_run_says_nothing_that_is_no_note(self):
         for words in (["plan", *UPDATE], ["check", *UPDATE, "plan.json"], ["emit", "topology.json", "plan.json"], ["sample", "4"]):
@@ -140,25 +150,25 @@ class Answers(unittest.TestCase):
             self.assertEqual((6, b""), (done.returncode, done.stdout))
             self.assertIn(f"planner: {path}: Too many levels of symbolic links", done.stderr.decode())
 
+    def stand_in(self, script):
+        """A program in place of PLANNER, which does what a shell script says."""
+        folder = tempfile.TemporaryDirectory()
+        self.addCleanup(folder.cleanup)
+        path = os.path.join(folder.name, "stand-in")
+        with open(path, "w", encoding="utf-8") as file:
+            file.write(f"#!/bin/sh\n{script}\n")
+        os.chmod(path, 0o755)
+        return path
+
     def test_want_of_memory(self):
-        with tempfile.TemporaryDirectory() as folder:
-            wants = os.path.join(folder, "wants")
-            with open(wants, "w", encoding="utf-8") as file:
-                file.write("#!/bin/sh\nexit 9\n")
-            os.chmod(wants, 0o755)
-            done = planner("plan", *UPDATE, "--quiet", program=wants)
-            self.assertEqual((9, b""), (done.returncode, done.stdout))
-            self.assertIn(b"memory ran out", done.stderr)
+        done = planner("plan", *UPDATE, "--quiet", program=self.stand_in("exit 9"))
+        self.assertEqual((9, b""), (done.returncode, done.stdout))
+        self.assertIn(b"memory ran out", done.stderr)
 
     def test_a_program_that_is_ended(self):
-        with tempfile.TemporaryDirectory() as folder:
-            dies = os.path.join(folder, "dies")
-            with open(dies, "w", encoding="utf-8") as file:
-                file.write("#!/bin/sh\nprintf half\nkill -KILL $$\n")
-            os.chmod(dies, 0o755)
-            done = planner("plan", *UPDATE, program=dies)
-            self.assertEqual((128 + signal.SIGKILL, b"half"), (done.returncode, done.stdout))
-            self.assertIn(b"the program was ended by signal 9", done.stderr)
+        done = planner("plan", *UPDATE, program=self.stand_in("printf half\nkill -KILL $$"))
+        self.assertEqual((128 + signal.SIGKILL, b"half"), (done.returncode, done.stdout))
+        self.assertIn(b"the program was ended by signal 9", done.stderr)
 
     def test_a_program_that_is_not_there(self):
         done = planner("plan", *UPDATE, program="/none/planner")
@@ -166,13 +176,8 @@ class Answers(unittest.TestCase):
         self.assertIn(b"/none/planner", done.stderr)
 
     def test_a_fault_of_the_front_end_changes_no_answer(self):
-        with tempfile.TemporaryDirectory() as folder:
-            odd = os.path.join(folder, "odd")
-            with open(odd, "w", encoding="utf-8") as file:
-                file.write("#!/bin/sh\necho 'refused: 99 Unheard of'\nexit 1\n")
-            os.chmod(odd, 0o755)
-            done = planner("check", *UPDATE, "plan.json", program=odd, variables={"PLANNER_TOOLS_TEST": ""})
-            self.assertEqual((1, b"refused: 99 Unheard of\n"), (done.returncode, done.stdout))
+        done = planner("check", *UPDATE, "plan.json", program=self.stand_in("echo 'refused: 99 Unheard of'\nexit 1"), variables={"PLANNER_TOOLS_TEST": ""})
+        self.assertEqual((1, b"refused: 99 Unheard of\n"), (done.returncode, done.stdout))
 
 
 class Manners(unittest.TestCase):

@@ -12,7 +12,8 @@ import rows
 sys.path.insert(0, rows.ROOT)
 from planner_tools import program  # noqa: E402
 
-# A program that answers as PLANNER does, but for the commands that show paths and tables: the rows of said.txt are without these lines.
+# A program that answers as PLANNER does, but for the commands that show paths and tables: the rows of said.txt are without these lines. Those of these
+# commands themselves are run by PLANNER.
 WITHOUT = ("paths", "trace", "tables")
 OLDER = """#!/bin/sh
 case "$1" in {names}) echo "unknown command or wrong words"; exit 2 ;; esac
@@ -25,9 +26,9 @@ class Said(unittest.TestCase):
     def setUpClass(cls):
         cls.room = tempfile.TemporaryDirectory(prefix="planner-tests-")
         cls.addClassCleanup(cls.room.cleanup)
-        cls.older = os.path.join(cls.room.name, "older")
+        cls.real, cls.older = os.path.abspath(program.path()), os.path.join(cls.room.name, "older")
         with open(cls.older, "w", encoding="utf-8") as file:
-            file.write(OLDER.format(names=" | ".join(WITHOUT), program=os.path.abspath(program.path())))
+            file.write(OLDER.format(names=" | ".join(WITHOUT), program=cls.real))
         os.chmod(cls.older, stat.S_IRWXU)
 
     def setUp(self):
@@ -49,7 +50,9 @@ class Said(unittest.TestCase):
         """What the front end answers and says of a row, and what the program answers, where the words are the program's alone."""
         with tempfile.TemporaryDirectory(dir=self.room.name) as folder:
             row.prepare(folder)
-            return row, row.run(rows.FRONT_END, folder), row.run(os.environ["PLANNER"], folder)[:2] if row.words and self.is_plain(row, folder) else None
+            planner = self.real if os.environ["PLANNER"] == self.older and row.words[:1] and row.words[0] in WITHOUT else os.environ["PLANNER"]
+            direct = row.run(planner, folder)[:2] if row.words and self.is_plain(row, folder) else None
+            return row, row.run(rows.FRONT_END, folder, PLANNER=planner), direct
 
     def test_what_is_said_is_what_stands_in_the_table(self):
         self.check("said.txt")

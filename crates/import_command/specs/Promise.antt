@@ -10,7 +10,7 @@ use Rattle.import_command.specs.Imported.{ImportMeaning, FilesMeanImport, Writes
 
 -- the files and their names, what was written before and after the run, and how it ended
 pub record ImportPromise (files : Files) (names : ImportNames) (old new : Option (List ℕ)) (result : Status) : Type 0 where
-  -- Done comes exactly where both files are read.
+  -- Done comes exactly where both files are read: the network, and flow statistics whose lines and entries pass every check.
   pub done : IsComplete result → ((result ≡ status.Done) ↔ ((m : ImportMeaning) × FilesMeanImport files names m))
   -- What is written then is read as the configuration of the entries.
   pub same : (m : ImportMeaning) → FilesMeanImport files names m → result ≡ status.Done → WritesConfig m.net m.tables old new

@@ -47,21 +47,25 @@ pub record EndAlike (one other : Status) : Type 0 where
 -- the files and their names, what was written before and after the run, and how it ended
 pub record PathsPromise (files : Files) (names : ConfigNames) (old new : Option (List ℕ))
     (result : Status) : Type 0 where
-  -- Done comes exactly where the files are read, with at most 8192 classes, each with a good path.
+  -- Done comes exactly where the files are within their limits and mean a network, a configuration and a policy, there are at most 8192
+  -- classes, and each has a good path.
   pub done : IsComplete result → ((result ≡ status.Done) ↔ FilesHold files names)
   -- Then every packet of every run over the configuration, in which nothing is changed, meets the demands.
   pub keeps : (m : ConfigMeaning) → FilesMean files names m → result ≡ status.Done → KeepsPacketsGood m.net m.tables m.demands
-  -- Refused comes exactly where some class has no good path, with the listing; too many classes are a bad file.
+  -- Refused comes exactly where some class has no good path, with the listing; too many classes are a bad file, as for `config`.
   pub refusals : RefusalPromise (FilesMean files names) config_count Holds IsPathsText old new result
-  -- In both cases the listing is written: of each class the path and the verdict, and the counts. Each entry and each address is of a class
-  -- that has a line, and the path and the verdict there are those of every address of the class.
+  -- In both cases a line for each class is written, in their order: the stops of its path and how it ends, and the verdict on it, judged
+  -- alone, which is `good` or `free` by whether some demand covers the class; and last the counts of these lines (`WritesPaths`). Each host
+  -- port with each declared VLAN, and each address, is of a class that has a line, and the path and the verdict there are those of every
+  -- address of the class (`SpeakForAll`).
   pub lists : (m : ConfigMeaning) → FilesMean files names m
       → (result ≡ status.Done) ⊎ (result ≡ status.Refused) → WritesPaths m old new
-  -- Where it is refused, the first line neither good nor free is that of the break that `config` names.
+  -- Where it is refused, the first line that is neither `good` nor `free` is that of the class that `config` names, with its word and its
+  -- switch.
   pub first : (m : ConfigMeaning) (b : breaking.Breaks) → FilesMean files names m
       → result ≡ status.Refused
       → IsFirstBreak m.net m.tables m.demands (classes_under m.net m.tables m.demands) b
       → ListsFirstBreak m b old new
-  -- So the run ends as a run of `config` over the same words does.
+  -- So it is Done, and Refused, exactly where a run of `config` over the same words is.
   pub as_config : IsComplete result → (before after : Option (List ℕ)) (other : Status)
       → IsComplete other → ConfigPromise files names before after other → EndAlike result other

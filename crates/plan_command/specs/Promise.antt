@@ -20,24 +20,27 @@ use Rattle.plan_command.specs.Planned.{IsNewPlan, AreSearched}
 
 -- the files and their names, what was written before and after the run, and how it ended
 pub record PlanPromise (files : Files) (names : UpdateNames) (old new : Option (List ℕ)) (result : Status) : Type 0 where
-  -- Done comes exactly where the four files mean an update with at most 8192 classes whose ends are good, and the search ended
-  -- ordered, or it ended stuck and there are tags and room for two phases.
+  -- Done comes exactly where the four files are within their limits and mean a network, two configurations and a policy with at most 8192
+  -- classes, both configurations have good paths for every class, and the search ended ordered, or it ended stuck and tags and table
+  -- entries suffice for two phases.
   pub done : IsComplete result → ((result ≡ status.Done) ↔ FilesHavePlan files names)
-  -- Then the text of the plan was written: the one of the search, or that of two phases with the rounds of the search as those that
-  -- were tried. Reading it gives this plan.
+  -- Then the text of the plan was written: the one of the search, or that of two phases with the rounds of the search as those that were
+  -- tried. Reading it gives this plan.
   pub writes : (u : Update) → FilesMeanUpdate files names u → result ≡ status.Done → WritesPlanOf IsNewPlan u old new
-  -- The plan that was written is certified, and so it keeps each packet's trace good in every state of every run.
+  -- The plan that was written is certified, so the update is consistent, as the headline has it (docs/THEOREMS.md): it keeps each packet's
+  -- trace good in every state of every run.
   pub keeps : (before : List ℕ) (u : Update) (p : Plan) → old ≡ Some before → result ≡ status.Done → FilesMeanUpdate files names u → WritesPlan u.net p old new → KeepsConsistent u p
-  -- Where what was written has no more bytes than a plan may have, `check` over the same files and this text says Done.
+  -- Where what was written has no more bytes than a plan may have, which are 512 MiB, `check` over the same files and this text says Done.
   pub checked : (others : Files) (before plan text : List ℕ) → old ≡ Some before → result ≡ status.Done → Appends old new text
       → length text ≤ limit_of kind.Plan → HoldBeside files others names plan text → FilesAreCertified others (record { update = names; plan = plan })
-  -- On an update of destination trees it says Done and writes an ordered plan, with one round for each rule that is replaced: never two
-  -- phases, too few tags or a switch that is too small.
+  -- On an update of destination trees (docs/THEOREMS.md) with at most 8192 classes it says Done and writes an ordered plan, with as many
+  -- rounds as rules differ: never two phases, too few tags or a switch that is too small.
   pub tree : IsComplete result → (u : Update) → FilesMeanTrees files names u → (result ≡ status.Done) × WritesOrderedPlan u old new
-  -- Refused comes exactly where an end isn't good, and the line names the first break; too many classes are a bad file.
+  -- Refused comes exactly where a configuration has no good path for some class, and the line names the first one, the old configuration
+  -- before the new; too many classes are a bad file.
   pub refusals : RefusesBadEnds files names old new result
-  -- Too few tags, and a switch that is too small, come exactly where the search ended stuck; the lines have the numbers and the
-  -- rounds of the search.
+  -- Too few tags, and a switch that is too small, come exactly where the search ended stuck and these don't suffice, tags before tables;
+  -- the lines have the numbers and the rounds of the search.
   pub too_few : IsComplete result → ((result ≡ status.TooFewTags) ↔ FilesLackTags AreSearched files names)
   pub too_few_lines : IsComplete result → (lack : FilesLackTags AreSearched files names)
       → Appends old new (lines.too_few_lines lack.update.net (length lack.update.net.vlans) (length (available_tags lack.update.net)) lack.tried)

@@ -4,7 +4,6 @@
 #[cfg(test)]
 mod class_limits;
 #[cfg(test)]
-#[cfg(test)]
 mod network_limits;
 #[cfg(test)]
 mod plan_format_tests;

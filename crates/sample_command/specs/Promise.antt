@@ -22,7 +22,8 @@ pub record WritesFront (n : ℕ) (old new : Option (List ℕ)) : Type 0 where
 pub record SamplePromise (n : ℕ) (old new : Option (List ℕ)) (result : Status) : Type 0 where
   -- It says Done, or memory was wanting, or writing failed, and nothing else.
   pub ends : (result ≡ status.Done) ⊎ ((result ≡ status.Memory) ⊎ (result ≡ status.WriteFault))
-  -- At Done the line was written: of an ordered plan of the ring with 4 * (n - 1) rounds, over 6 * n classes, which is certified.
+  -- At Done the line was written: of the ordered plan of a search on the ring of n switches, with 4 * (n - 1) rounds over 6 * n classes.
+  -- The plan has as many rounds, and the update with it as many classes; it is certified, so the update is consistent.
   pub writes : result ≡ status.Done → WritesSummary n old new
   -- Where writing failed, a front of the line was.
   pub front : result ≡ status.WriteFault → WritesFront n old new

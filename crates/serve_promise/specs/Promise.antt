@@ -49,38 +49,50 @@ pub record StopsUnwritten (m : CheckMeaning) (input old new : Option (List ℕ))
 
 -- the files and their names, what was written before and after the run, how many bytes of the last file were taken, and how it ended
 pub record ServePromise (files : Files) (names : CheckNames) (old new : Option (List ℕ)) (taken : ℕ) (result : Status) : Type 0 where
-  -- Done comes exactly where the five files mean an update and a plan of it that is certified, with at most 8192 classes.
+  -- Done comes exactly where it does for `check`: the five files mean an update and a plan of it that is certified, with at most 8192
+  -- classes.
   pub done : IsComplete result → ((result ≡ status.Done) ↔ FilesAreCertified files names)
-  -- Refused comes exactly where the plan isn't certified, and the line names the first reason; too many classes are a bad file.
+  -- Refused comes exactly where the plan isn't certified, and the line names the first reason; too many classes are a bad file, both as for
+  -- `check`.
   pub refusals : RefusesUncertified files names old new result
-  -- Where the files mean no certified plan, the answer is that of `check`; at most a front of it is written where writing fails, and else nothing.
+  -- Where the files mean no certified plan, the answer is that of `check`; a front of it is written where writing fails, and nothing where
+  -- reading fails or memory is wanting.
   pub as_check : ¬ FilesAreCertified files names → IsComplete result → Answered IsCheckAnswer files (check_dialogue names) old new result
   pub as_check_front : ¬ FilesAreCertified files names → result ≡ status.WriteFault → AnswersFront IsCheckAnswer (Some files) (check_dialogue names) old new
   pub as_check_nothing : ¬ FilesAreCertified files names → (result ≡ status.ReadFault) ⊎ (result ≡ status.Memory) → Keeps old new
   -- At the end of the standard input the blocks of line 0 and of all its lines are written, and nothing else.
   pub whole : (c : FilesAreCertified files names) (input : List ℕ) → files input_name ≡ Some input → result ≡ status.Done → Appends old new (text_on c.meaning (lines_in input))
-  -- A run that ends before wrote nothing, or the blocks of the lines that were taken, each whole.
+  -- A run that ends before wrote nothing, where the plan wasn't served yet, or the blocks of lines, each whole: where reading failed those
+  -- of all lines that were ended by the bytes that were taken, for want of memory those of the first lines. Where writing failed it is a
+  -- front of the blocks of a front of the input.
   pub read_fault : (c : FilesAreCertified files names) → result ≡ status.ReadFault → Keeps old new ⊎ StopsUnread c.meaning (files input_name) taken old new
   pub memory : (c : FilesAreCertified files names) → result ≡ status.Memory → Keeps old new ⊎ StopsWanting c.meaning (files input_name) taken old new
   pub write_fault : (c : FilesAreCertified files names) → result ≡ status.WriteFault → StopsUnwritten c.meaning (files input_name) old new
-  -- The text is the blocks in a row, and those of lines don't depend on what stands behind these.
+  -- The text is the blocks in a row, each of what the driver says and of how its line ended; what the blocks of lines say doesn't depend on
+  -- the lines behind them.
   pub blocks : (c : FilesAreCertified files names) (lines : List (List ℕ)) → text_on c.meaning lines ≡ flat_map (block_of c.meaning.update.net (length c.meaning.plan.rounds)) (told_on c.meaning lines)
   pub fronts : (c : FilesAreCertified files names) (lines more : List (List ℕ)) → told_on c.meaning (lines ++ more) ≡ told_on c.meaning lines ++ told_lines (driver_behind c.meaning lines) more
-  -- The events of all blocks are a run of the update that may be turned back, from the old tables, and its phase is what the blocks say.
+  -- The events of all blocks, in order, are a run both ways of the plan's rounds from the old tables, without packets, and no round is
+  -- begun or turned back while a barrier request of another round isn't answered (`TellsRun`); the phase that the last line of a block says
+  -- is that of the run.
   pub is_run : (c : FilesAreCertified files names) (lines : List (List ℕ)) → TellsRun c.meaning lines
   pub phases : (c : FilesAreCertified files names) (lines : List (List ℕ)) (line : List ℕ) → TellsPhase c.meaning lines line
-  -- The second headline. In every state of every run, however often the update is turned back and onward again, between the hops of packets, each
-  -- packet's trace meets the demands, and under two phases it is the old or the new path.
+  -- The second headline (docs/THEOREMS.md). The plan is certified, so the update is consistent however often it is turned back and onward
+  -- again: in every state of every run, between the hops of packets, each packet's trace meets the demands, and under two phases it is the
+  -- old or the new path.
   pub both_ways : (c : FilesAreCertified files names) → IsTwoWayConsistent c.meaning.update c.meaning.plan.rounds (is_two_phase c.meaning.plan.evidence)
-  -- The block of line 0 sends HELLO to each switch, and each block behind it what its line asks for, and nothing else.
+  -- The block of line 0 sends HELLO to each switch; each later block sends what its line asks for and nothing else: the messages of the
+  -- round that begins or turns, with the next xids; HELLO where a session is opened again; and where bytes come the very replies to the
+  -- echo requests in them, behind what the switch hasn't answered of the running round where its HELLO came (`SendsAsAsked`).
   pub greets : (c : FilesAreCertified files names) (s : SwitchId) → s.0 < switch_count c.meaning.update.net → texts_to s (told_first (driver_of c.meaning [])).said ≡ hello ∷ []
   pub sends : (c : FilesAreCertified files names) (lines : List (List ℕ)) (line : List ℕ) → SendsAsAsked c.meaning lines line
-  -- Lines that ask for the same as inputs of `drive` send and log what it says of these.
+  -- Lines that ask for the same as inputs that `drive` takes send each switch the same bytes, and log the same events (`TellsAs`).
   pub as_drive : (c : FilesAreCertified files names) (lines : List (List ℕ)) (inputs : List InputLine) (one : OnwardState) → AreInputs c.meaning.update.net inputs
       → calls_in c.meaning.update.net lines ≡ map two_way_call (calls_of inputs) → driven_by c.meaning.update.net c.meaning.plan.rounds inputs ≡ Ok one → TellsAs c.meaning lines one
-  -- Where none of these lines is answered by `no ..` or `bad line`, `drive` takes the inputs.
+  -- Lines that ask for the same as inputs, and none of which is answered by `no ..` or `bad line`, ask for inputs that `drive` takes
+  -- (`AreTaken`).
   pub drive_takes : (c : FilesAreCertified files names) (lines : List (List ℕ)) (inputs : List InputLine) → AreInputs c.meaning.update.net inputs
       → calls_in c.meaning.update.net lines ≡ map two_way_call (calls_of inputs) → AreTaken c.meaning lines
       → (one : OnwardState) × (driven_by c.meaning.update.net c.meaning.plan.rounds inputs ≡ Ok one)
-  -- Bytes of a switch may be cut anywhere.
+  -- Two lines that feed bytes of a switch say together what one line with all of them says, and leave the same driver (`SaysTheSame`).
   pub cut_anywhere : (c : FilesAreCertified files names) (lines : List (List ℕ)) (front rest whole : List ℕ) → AreCut c.meaning front rest whole → SaysTheSame c.meaning lines front rest whole

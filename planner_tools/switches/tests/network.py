@@ -122,6 +122,20 @@ class Network:
 class UpdateTest(unittest.TestCase):
     """Tests of whole updates."""
 
+    def wait_for(self, run, words):
+        """Reads what a run says up to a line with the words."""
+        said = ""
+        for line in run.stderr:
+            said += line
+            if words in line:
+                return said
+        self.fail(f"it never said {words}, but: {said}")
+
+    def press(self, run):
+        """Presses Enter."""
+        run.stdin.write("\n")
+        run.stdin.flush()
+
     def settles(self, net, run):
         """What `serve` says of the record of an update that came to its end."""
         status, said = run

@@ -247,12 +247,8 @@ class Applying(UpdateTest):
         net = Network(self, "square")
         run = net.begin("--ask")
         for number in (1, 2):
-            for line in run.stderr:
-                if "press Enter" in line:
-                    break
-            self.assertIn(f"round {number} of 2 is next", line)
-            run.stdin.write("\n")
-            run.stdin.flush()
+            self.assertIn("press Enter", self.wait_for(run, f"round {number} of 2 is next"))
+            self.press(run)
         self.settles(net, (0, run.communicate(timeout=20)[1]))
         net = Network(self, "square")
         self.stops(net.apply("--ask"), "the input with the operator's answers ended; 0 of 2 rounds are settled", "--resume")

@@ -27,19 +27,6 @@ with subprocess.Popen([{planner!r}, *sys.argv[1:]], stdout=subprocess.PIPE, text
 
 
 class Ends(UpdateTest):
-    def wait_for(self, run, words):
-        """Reads what a run says up to a line with the words."""
-        said = ""
-        for line in run.stderr:
-            said += line
-            if words in line:
-                return said
-        self.fail(f"it never said {words}, but: {said}")
-
-    def press(self, run):
-        run.stdin.write("\n")
-        run.stdin.flush()
-
     def last_of(self, net):
         return net.record.read_text().splitlines()[-1]
 

@@ -19,19 +19,6 @@ def until(is_so):
 
 
 class Faults(UpdateTest):
-    def wait_for(self, run, words):
-        """Reads what a run says up to a line with the words."""
-        said = ""
-        for line in run.stderr:
-            said += line
-            if words in line:
-                return said
-        self.fail(f"it never said {words}, but: {said}")
-
-    def press(self, run):
-        run.stdin.write("\n")
-        run.stdin.flush()
-
     def end_of(self, run):
         said = run.communicate(timeout=LONGEST)[1]
         return run.returncode, said

@@ -152,12 +152,8 @@ class Turning(UpdateTest):
         self.settles(net, net.apply())
         run = net.begin("--back", "--ask")
         for number in (2, 1):
-            for line in run.stderr:
-                if "press Enter" in line:
-                    break
-            self.assertIn(f"the undoing of round {number} of 2 is next", line)
-            run.stdin.write("\n")
-            run.stdin.flush()
+            self.assertIn("press Enter", self.wait_for(run, f"the undoing of round {number} of 2 is next"))
+            self.press(run)
         self.is_back(net, (0, run.communicate(timeout=LONGEST)[1]))
 
     # ---- `serve` itself
