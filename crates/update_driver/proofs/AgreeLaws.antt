@@ -23,7 +23,6 @@ use Rattle.openflow10.specs.Messages.{wire_text}
 use Rattle.openflow10.specs.declared.Message.{Message}
 use Rattle.round_messages.specs.Requests.{Request, is_changed, switch_numbered, switches_changed, change_request, barrier_request, round_requests, requests_from, sent_from, first_xid}
 use Rattle.round_messages.specs.ToSwitch.{messages_to, AreFor}
-use Rattle.round_messages.proofs.Requests.{requests_from-push, round_count, request_count}
 use Rattle.round_messages.proofs.BySwitch.{each_round, round_alone, messages_in_turn}
 use Rattle.switch_session.specs.Channels.{ChannelState, first_channel, hello, is_open, is_failed, after_request, after_byte}
 use Rattle.switch_session.specs.declared.Session.{Session}
@@ -31,15 +30,18 @@ use Rattle.switch_session.specs.declared.Session.TheVariants.{Waiting, Open, Fai
 use Rattle.switch_session.proofs.TalkLaws.{front_nil}
 use Rattle.turned_rounds.specs.Batches.{xid_behind, batch_of, outgoing_of}
 use Rattle.turned_rounds.specs.declared.outgoing.Outgoing.{Outgoing}
-use Rattle.turned_rounds.proofs.NumberLaws.{batch_is}
+use Rattle.turned_rounds.proofs.NumberLaws.{xid_is, batch_is}
 use Rattle.two_way_runs.specs.States as two_way
+use Rattle.two_way_runs.specs.Laws.{onward_events}
 use Rattle.update_driver.specs.Drivers as one
 use Rattle.update_driver.specs.Drivers.{DriverState as OnwardState, channel_at, with_channel, none_outstanding, change_events, is_answered, messages_for, barrier_in, told_channel, told_all}
 use Rattle.update_driver.specs.Calls as onward
 use Rattle.update_driver.specs.Laws.{begun_count}
-use Rattle.update_driver.proofs.SoundLaws.{IsSound, MayBegin, sound_first, sound_fed, sound_call, may_begin, begun, none_is}
+use Rattle.update_driver.proofs.ListLaws.{get_replicated}
+use Rattle.update_driver.proofs.CountLaws.{round_parts, round_few, requests_few, next_first}
+use Rattle.update_driver.proofs.SoundLaws.{IsSound, MayBegin, length-told_all, sound_first, sound_fed, sound_call, may_begin, begun, none_is}
 use Rattle.update_driver.proofs.AskedLaws.{barrier_for, told_at}
-use Rattle.update_driver.proofs.PieceLaws.{parts, fed-append}
+use Rattle.update_driver.proofs.PieceLaws.{parts, fed-append, fed-nil}
 use Rattle.two_way_driver.specs.PeerStates.{PeerState}
 use Rattle.two_way_driver.specs.Peers.{first_peer, failure_in, peer_after, asks, answers}
 use Rattle.two_way_driver.specs.Drivers.{DriverState, peer_at, with_peer, with_said, sends, is_to_open, asked_from, sent_out, settled_in, all_answered, settled_if_answered, log_if, change_notes, made_state, carried_out, answered_state, sent_again, opened_state, running_round, asked_round, heard_state, fed_byte, state_after_bytes, first_words, first_driver, flagged_state, first_not_open, started_with, start_fault_in, started_in}
@@ -57,29 +59,28 @@ use Rattle.two_way_driver.specs.declared.peers.ByteOutcome.{ByteOutcome}
 use Rattle.two_way_driver.specs.declared.peers.ByteOutcome.TheVariants.{Nothing, Opened, Answered, Replied}
 use Rattle.two_way_driver.proofs.ServingLaws.{length-asked}
 use Rattle.two_way_driver.proofs.SendingLaws.{texts-append, quiet, texts_open, changes_quiet, hello_first}
-use Rattle.driver_agreement.specs.Agreement.{two_way_call, Agree}
-use Rattle.driver_agreement.proofs.SwitchLaws.{events_of, same_waits, none_at, PeerAs, IsOnward, x, g, unanswered_heard, heard_is, more_none, peer_unanswered, peer_answered, opened_none}
-use Rattle.driver_agreement.proofs.MessageLaws.{behind_is, concat_texts, none_passes, find_alike, none_found, texts_are, no_barrier_in, barriers_to, changed_from, asks_so, asked_barrier}
-use Rattle.net_base.specs.Switches.{most_switches}
+use Rattle.update_driver.specs.Agreement.{two_way_call, Agree}
+use Rattle.update_driver.proofs.SwitchLaws.{same_waits, none_at, PeerAs, IsOnward, x, g, unanswered_heard, heard_is, more_none, peer_unanswered, peer_answered, opened_none}
+use Rattle.update_driver.proofs.MessageLaws.{concat_texts, none_passes, find_alike, none_found, barriers_to, changed_from, asks_so, asked_barrier, batch_behind, batch_texts, barrier_is}
 
 -- ---- events
 
-notes_are : (s : SwitchId) (i : ℕ) (round : List Change) → events_in (change_notes s i round) ≡ events_of (change_events s i round)
+notes_are : (s : SwitchId) (i : ℕ) (round : List Change) → events_in (change_notes s i round) ≡ onward_events (change_events s i round)
 notes_are s i [] = refl
 notes_are s i (c ∷ round) =
     filter_map-append event_in (log_if (eqb (switch_of c).0 s.0) (logged.Change i)) (change_notes s (suc i) round)
     ∙ ap (λ l. events_in (log_if (eqb (switch_of c).0 s.0) (logged.Change i)) ++ l) (notes_are s (suc i) round)
     ∙ chosen (eqb (switch_of c).0 s.0)
   where
-    chosen : (t : Bool) → events_in (log_if t (logged.Change i)) ++ events_of (change_events s (suc i) round) ≡ events_of (cond t (event.Change i ∷ change_events s (suc i) round) (change_events s (suc i) round))
+    chosen : (t : Bool) → events_in (log_if t (logged.Change i)) ++ onward_events (change_events s (suc i) round) ≡ onward_events (cond t (event.Change i ∷ change_events s (suc i) round) (change_events s (suc i) round))
     chosen true = refl
     chosen false = refl
 
-more_events : (said words : List DriverOutput) (log more : List Event) → events_in said ≡ events_of log → events_in words ≡ events_of more → events_in (said ++ words) ≡ events_of (log ++ more)
+more_events : (said words : List DriverOutput) (log more : List Event) → events_in said ≡ onward_events log → events_in words ≡ onward_events more → events_in (said ++ words) ≡ onward_events (log ++ more)
 more_events said words log more e f =
-    filter_map-append event_in said words ∙ ap (λ l. l ++ events_in words) e ∙ ap (λ l. events_of log ++ l) f ∙ sym (map-append two_way.Onward log more)
+    filter_map-append event_in said words ∙ ap (λ l. l ++ events_in words) e ∙ ap (λ l. onward_events log ++ l) f ∙ sym (map-append two_way.Onward log more)
 
-silent_words : (said words : List DriverOutput) (log : List Event) → events_in said ≡ events_of log → events_in words ≡ [] → events_in (said ++ words) ≡ events_of log
+silent_words : (said words : List DriverOutput) (log : List Event) → events_in said ≡ onward_events log → events_in words ≡ [] → events_in (said ++ words) ≡ onward_events log
 silent_words said words log e f = filter_map-append event_in said words ∙ ap (λ l. events_in said ++ l) f ∙ append-nil (events_in said) ∙ e
 
 sends_silent : (wanted : Outgoing → Bool) (ms : List Outgoing) → events_in (sends wanted ms) ≡ []
@@ -99,7 +100,7 @@ module _ (net : Network) (rounds inverses : List (List Change)) where
     onward : IsOnward e.stage
     phase : phase_of e.stage ≡ d.phase
     each : (s : SwitchId) → s.0 < switch_count net → PeerAs (channel_at d s) (peer_at e s) (texts_to s e.said)
-    events : events_in e.said ≡ events_of d.log
+    events : events_in e.said ≡ onward_events d.log
     next : e.next ≡ first_xid net rounds (begun_count d.phase)
 
   -- the running round is settled by both or by none
@@ -135,7 +136,7 @@ module _ (net : Network) (rounds inverses : List (List Change)) where
   -- what is kept of one switch changes
   module _ (d : OnwardState) (e : DriverState) (f : Follows d e) (s : SwitchId) (within : s.0 < switch_count net) (a : ChannelState) (q : PeerState) where
     follows_put : (d2 : OnwardState) (e2 : DriverState) → d2.channels ≡ set d.channels s.0 a → e2.peers ≡ set e.peers s.0 q → PeerAs a q (texts_to s e2.said)
-        → ((t : SwitchId) → s.0 ≢ t.0 → texts_to t e2.said ≡ texts_to t e.said) → events_in e2.said ≡ events_of d2.log → e2.stage ≡ e.stage → d2.phase ≡ d.phase → e2.next ≡ e.next → Follows d2 e2
+        → ((t : SwitchId) → s.0 ≢ t.0 → texts_to t e2.said ≡ texts_to t e.said) → events_in e2.said ≡ onward_events d2.log → e2.stage ≡ e.stage → d2.phase ≡ d.phase → e2.next ≡ e.next → Follows d2 e2
     follows_put d2 e2 channels peers here others events stage phase next = record {
       channels = ap length channels ∙ length-set d.channels s.0 a ∙ f.channels;
       peers = ap length peers ∙ length-set e.peers s.0 q ∙ f.peers;
@@ -299,23 +300,8 @@ module _ (net : Network) (rounds inverses : List (List Change)) where
 
   -- ---- bytes come
 
-  set_same : (xs : List ChannelState) (i : ℕ) → set xs i (get_or xs i first_channel) ≡ xs
-  set_same [] i = refl
-  set_same (x ∷ xs) zero = refl
-  set_same (x ∷ xs) (suc i) = ap (λ l. x ∷ l) (set_same xs i)
-
-  no_bytes : (s : SwitchId) (d : OnwardState) → one.driver_after_bytes rounds s [] d ≡ d
-  no_bytes s d =
-      let c = channel_at d s in
-      cond-false (is_answered c.outstanding c.outstanding) (one.made_driver rounds s (with_channel s c d)) (with_channel s c d) (never c.outstanding)
-      ∙ ap (λ (l : List ChannelState). let r : OnwardState = record d { channels = l } in r) (set_same d.channels s.0)
-    where
-      never : (o : Option ℕ) → (is_some o && is_none o) ≡ false
-      never None = refl
-      never (Some n) = refl
-
   fed_follows : (s : SwitchId) (bytes : List ℕ) (d : OnwardState) (e : DriverState) → s.0 < switch_count net → IsSound net rounds d → Follows d e → Follows (one.driver_after_bytes rounds s bytes d) (state_after_bytes net rounds inverses s bytes e)
-  fed_follows s [] d e within sound f = subst (λ (y : OnwardState). Follows y e) (sym (no_bytes s d)) f
+  fed_follows s [] d e within sound f = subst (λ (y : OnwardState). Follows y e) (sym (fed-nil rounds s d)) f
   fed_follows s (b ∷ bytes) d e within sound f =
       let count = f.channels in
       let first = byte_follows s within b d e sound f in
@@ -324,7 +310,7 @@ module _ (net : Network) (rounds inverses : List (List Change)) where
 
 -- ---- a round starts
 
-module _ (net : Network) (rounds inverses : List (List Change)) (few : switch_count net ≤ most_switches) (drivable : onward.AreDrivable net rounds) where
+module _ (net : Network) (rounds inverses : List (List Change)) (drivable : onward.AreDrivable net rounds) where
   module _ (k : ℕ) (less : k < length rounds) where
     abbrev round : List Change
     round = round_after k rounds
@@ -332,44 +318,18 @@ module _ (net : Network) (rounds inverses : List (List Change)) (few : switch_co
     abbrev first : ℕ
     first = first_xid net rounds k
 
-    few_all : first + length round + switch_count net ≤ 4294967295
-    few_all =
-        let before = request_count net 0 (take k rounds) few in
-        let count = length-take-le k rounds (omega arith) in
-        let this = sum_by_more_le length rounds k [] less in
-        omega (arith, before, count, this, few, drivable.few_rounds, drivable.few_changes)
-
     few_xids : first + length (round_requests net k round) ≤ 4294967295
-    few_xids = let all = few_all in let here = round_count net k round in omega arith
+    few_xids =
+        let before = requests_few net 0 (take k rounds) in
+        let here = round_few net k round in
+        let this = sum_by_more_le length rounds k [] less in
+        omega (arith, before, here, this, drivable.few_changes)
 
-    next_first : first + length (round_requests net k round) ≡ first_xid net rounds (suc k)
-    next_first =
-        let step : suc k ≡ k + 1 = omega arith in
-        let place : 0 + length (take k rounds) ≡ k = omega (arith, length-take-le k rounds (omega arith)) in
-        let all : take (suc k) rounds ≡ take k rounds ++ round ∷ [] = ap (λ (n : ℕ). take n rounds) step ∙ take_more rounds k [] less in
-        let whole : requests_from net 0 (take (suc k) rounds) ≡ requests_from net 0 (take k rounds) ++ round_requests net k round =
-        ap (requests_from net 0) all ∙ requests_from-push net 0 (take k rounds) round ∙ ap (λ (n : ℕ). requests_from net 0 (take k rounds) ++ round_requests net n round) place in
-        let count = ap length whole ∙ length-append (requests_from net 0 (take k rounds)) (round_requests net k round) in
-        omega (arith, count)
-
-    length-sent : (y : ℕ) (rs : List Request) → length (sent_from y rs) ≡ length rs
-    length-sent y [] = refl
-    length-sent y (r ∷ rs) = ap suc (length-sent (suc y) rs)
+    few_first : first + length round ≤ 4294967295
+    few_first = let all = few_xids in let parts = round_parts net k round in omega arith
 
     batch_xid : xid_behind first (length (batch_of net first round)) ≡ first_xid net rounds (suc k)
-    batch_xid =
-        let count : length (batch_of net first round) ≡ length (round_requests net k round) =
-        ap length (sym (batch_is net k first round few_xids)) ∙ length-map (sent_from first (round_requests net k round)) outgoing_of ∙ length-sent first (round_requests net k round) in
-        ap (xid_behind first) count ∙ behind_is first (length (round_requests net k round)) few_xids ∙ next_first
-
-    each_map : {A : Type 0} (f : A → Request) → ((x : A) → (f x).round ≡ k) → (xs : List A) → AllByRecursion (λ (r : Request). r.round ≡ k) (map f xs)
-    each_map f h [] = tt
-    each_map f h (x ∷ xs) = (h x, each_map f h xs)
-
-    in_round : AllByRecursion (λ (r : Request). r.round ≡ k) (round_requests net k round)
-    in_round =
-        each_append (λ (r : Request). r.round ≡ k) (map (change_request k) round) (map (barrier_request k) (switches_changed net round)) (each_map (change_request k) (λ c. refl) round)
-        (each_map (barrier_request k) (λ s. refl) (switches_changed net round))
+    batch_xid = batch_behind net k first round few_xids ∙ next_first net rounds k less
 
     -- the messages to a switch
     abbrev messages : SwitchId → List Message
@@ -378,35 +338,24 @@ module _ (net : Network) (rounds inverses : List (List Change)) (few : switch_co
     messages_are : (s : SwitchId) → messages_for net rounds k s ≡ messages s
     messages_are s = round_alone net rounds k s less
 
-    batch_texts : (s : SwitchId) → texts_for s (batch_of net first round) ≡ map wire_text (messages s)
-    batch_texts s = ap (texts_for s) (sym (batch_is net k first round few_xids)) ∙ texts_are k s first (round_requests net k round) in_round
-
     -- the xid of the first barrier request
     abbrev first_barrier : ℕ
     first_barrier = xid_behind first (length round)
-
-    barrier_is : (s : SwitchId) → barrier_in (messages s) ≡ barrier_in (barriers_to k round s first_barrier (changed_from k round 0 (switch_count net)))
-    barrier_is s =
-        let changes = map (change_request k) round in
-        let count : length changes ≡ length round = length-map round (change_request k) in
-        let both = length-append changes (map (barrier_request k) (switches_changed net round)) in
-        let fits = few_xids in
-        let at : first + length changes ≡ first_barrier = ap (λ (n : ℕ). first + n) count ∙ sym (behind_is first (length round) (omega arith)) in
-        ap barrier_in (messages_in_turn k s first changes (map (barrier_request k) (switches_changed net round)))
-        ∙ no_barrier_in k s first round (barriers_to k round s (first + length changes) (switches_changed net round))
-        ∙ ap (λ (y : ℕ). barrier_in (barriers_to k round s y (switches_changed net round))) at
 
     asked_is : (peers : List PeerState) (s : SwitchId) → length peers ≡ switch_count net → s.0 < switch_count net
         → get_or (asked_from first_barrier round 0 peers) s.0 first_peer ≡ option_map_or (λ x. asks x (get_or peers s.0 first_peer)) (barrier_in (messages s)) (get_or peers s.0 first_peer)
     asked_is peers s count within =
         let p = get_or peers s.0 first_peer in
         let place : 0 + s.0 ≡ s.0 = omega arith in
-        let all = few_all in
-        let at : first_barrier ≡ first + length round = behind_is first (length round) (omega arith) in
+        let at : first_barrier ≡ first + length round = xid_is first (length round) few_first in
+        let asked : length (changed_from k round 0 (length peers)) ≡ length (switches_changed net round) = ap (λ (m : ℕ). length (changed_from k round 0 m)) count in
+        let all = few_xids in
+        let parts = round_parts net k round in
         asked_barrier k round first_barrier 0 peers s.0 (omega arith) (omega arith)
         ∙ ap (λ (j : ℕ). asks_so k round p (barrier_in (barriers_to k round (switch_numbered j) first_barrier (changed_from k round 0 (length peers))))) place
         ∙ ap (λ (m : ℕ). asks_so k round p (barrier_in (barriers_to k round s first_barrier (changed_from k round 0 m)))) count
-        ∙ ap (asks_so k round p) (sym (barrier_is s))
+        ∙ ap (λ (y : ℕ). asks_so k round p (barrier_in (barriers_to k round s y (changed_from k round 0 (switch_count net))))) at
+        ∙ ap (asks_so k round p) (sym (barrier_is net k first round few_xids s))
 
     -- one switch, to which its messages are sent
     module _ (s : SwitchId) (c : ChannelState) (p : PeerState) (texts : List (List ℕ)) (seen : PeerAs c p texts) (free : c.outstanding ≡ None) where
@@ -455,10 +404,6 @@ module _ (net : Network) (rounds inverses : List (List Change)) (few : switch_co
             let p_count = f.peers in
             ap (λ (p : PeerState). is_open p.channel.session) (get_or_past e.peers s.0 first_peer (omega arith)) ∙ sym (ap (λ (c : ChannelState). is_open c.session) (get_or_past d.channels s.0 first_channel (omega arith))))
       ]
-
-  length-told : (k n : ℕ) (channels : List ChannelState) → length (told_all net rounds k n channels) ≡ length channels
-  length-told k n [] = refl
-  length-told k n (c ∷ channels) = ap suc (length-told k (suc n) channels)
 
   open_session : (x : Session) → is_open x ≡ true → x ≡ Open
   open_session Waiting e = absurd (let f : false ≡ true = e in cc)
@@ -543,7 +488,7 @@ module _ (net : Network) (rounds inverses : List (List Change)) (few : switch_co
     sent_follows : Follows net rounds inverses (begun net rounds d) (sent_out net changes (Onward k) (flagged_state false (with_said (Log logged.Start ∷ []) e)))
     unfolding sent_out
     sent_follows = record {
-      channels = length-told (settled_count d.phase) 0 d.channels ∙ f.channels;
+      channels = length-told_all net rounds (settled_count d.phase) 0 d.channels ∙ f.channels;
       peers = length-asked (xid_behind e.next (length changes)) changes 0 e.peers ∙ f.peers;
       onward = tt;
       phase = sym (ap one.started_phase settled_is);
@@ -568,7 +513,7 @@ module _ (net : Network) (rounds inverses : List (List Change)) (few : switch_co
           ∙ ap (λ (l : List (List ℕ)). texts_to s e.said ++ l) (texts_open s e.peers (batch_of net e.next changes)
           ∙ ap (λ t. cond t (texts_for s (batch_of net e.next changes)) []) (same_sessions d e f s)
           ∙ ap (λ (y : ℕ). cond (is_open c.session) (texts_for s (batch_of net y changes)) []) next_is_first
-          ∙ ap (λ (l : List (List ℕ)). cond (is_open c.session) l []) (batch_texts k less s)) in
+          ∙ ap (λ (l : List (List ℕ)). cond (is_open c.session) l []) (batch_texts net k (first_xid net rounds k) changes (few_xids k less) s)) in
           let told_too = is_told k less s c p (texts_to s e.said) seen free (changes_at s changes) ms (subst (AreFor (changes_at s changes)) ms_are (each_round net rounds k s drivable.plan)) (opens s within) in
           subst (λ (x : ChannelState). PeerAs x (get_or (asked_from (xid_behind e.next (length changes)) changes 0 e.peers) s.0 first_peer) (texts_to s words)) (sym c_is)
           (subst (λ (x : PeerState). PeerAs (told_channel ms c) x (texts_to s words)) (sym p_is)
@@ -623,16 +568,6 @@ module _ (net : Network) (rounds inverses : List (List Change)) (few : switch_co
       calls_follow (onward.after_call net rounds d c) (after_call w (two_way_call c)) calls ok.1 (sound_call net rounds d c sound)
       (subst (λ (x : DriverView). FollowsView (onward.after_call net rounds d c) (after_call x (two_way_call c))) (sym is) (call_follows d e c ok.0 sound f))
 
-  first_channel_at : (n i : ℕ) → get_or (replicate n first_channel) i first_channel ≡ first_channel
-  first_channel_at zero i = refl
-  first_channel_at (suc n) zero = refl
-  first_channel_at (suc n) (suc i) = first_channel_at n i
-
-  first_peer_at : (n i : ℕ) → get_or (replicate n first_peer) i first_peer ≡ first_peer
-  first_peer_at zero i = refl
-  first_peer_at (suc n) zero = refl
-  first_peer_at (suc n) (suc i) = first_peer_at n i
-
   words_silent : (n count : ℕ) → events_in (first_words n count) ≡ []
   words_silent n zero = refl
   words_silent n (suc count) = words_silent (suc n) count
@@ -646,8 +581,8 @@ module _ (net : Network) (rounds inverses : List (List Change)) (few : switch_co
     each = λ s within. (
         let first_words_are : texts_to s (first_words 0 (switch_count net)) ≡ hello ∷ [] = hello_first s 0 (switch_count net) (omega arith) (omega arith) in
         let here : PeerAs first_channel first_peer (hello ∷ []) = record { channel = refl; behind = refl; asked = refl; sent = append-nil hello; waits = λ w. refl; reads = λ going. front_nil } in
-        subst (λ (c : ChannelState). PeerAs c (get_or (replicate (switch_count net) first_peer) s.0 first_peer) (texts_to s (first_words 0 (switch_count net)))) (sym (first_channel_at (switch_count net) s.0))
-        (subst (λ (p : PeerState). PeerAs first_channel p (texts_to s (first_words 0 (switch_count net)))) (sym (first_peer_at (switch_count net) s.0)) (subst (PeerAs first_channel first_peer) (sym first_words_are) here)));
+        subst (λ (c : ChannelState). PeerAs c (get_or (replicate (switch_count net) first_peer) s.0 first_peer) (texts_to s (first_words 0 (switch_count net)))) (sym (get_replicated (switch_count net) s.0 first_channel))
+        (subst (λ (p : PeerState). PeerAs first_channel p (texts_to s (first_words 0 (switch_count net)))) (sym (get_replicated (switch_count net) s.0 first_peer)) (subst (PeerAs first_channel first_peer) (sym first_words_are) here)));
     events = words_silent 0 (switch_count net);
     next = refl;
   }

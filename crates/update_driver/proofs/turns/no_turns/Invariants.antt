@@ -1,9 +1,9 @@
 use Rattle.std.proofs.Common.{◌≡◌, length}
 use Rattle.update_driver.specs.Inside.{AreEmpty}
-use Rattle.update_driver.proofs.turns.SwitchStarts.make.Given as goal
+use Rattle.update_driver.proofs.turns.no_turns.Given as goal
 
 abbrev pub invariant-loop-number : goal.invariant-loop-number
 invariant-loop-number l = record {
-  empty : AreEmpty l.list.items;
-  count : length l.list.items ≡ l._number;
+  empty : AreEmpty l.turns.items;
+  count : length l.turns.items ≡ l._number;
 }

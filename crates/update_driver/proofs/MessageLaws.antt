@@ -4,34 +4,29 @@ use Rattle.std.specs.Prelude.{Option, Some, None, filter, flat_map, find}
 use Rattle.std.specs.List.{AllByRecursion, concat, list_any, range_with_len}
 use Rattle.std.specs.Option.{option_map_or}
 use Rattle.std.proofs.lemmas.Bool.{cases_Bool, cases_eq, cond-true, cond-false, eq-eqb, ne_eqb}
+use Rattle.std.proofs.lemmas.List.{length-map}
 use Rattle.net_base.specs.declared.ids.SwitchId.{SwitchId}
+use Rattle.net_base.proofs.MemberLaws.{each_append}
+use Rattle.topology.specs.Networks.{Network, switch_count}
 use Rattle.update_model.specs.declared.Change.{Change}
 use Rattle.openflow10.specs.Messages.{wire_text}
 use Rattle.openflow10.specs.declared.Message.{Message}
 use Rattle.openflow10.specs.declared.Message.TheVariants.{BarrierRequest}
-use Rattle.round_messages.specs.Requests.{Sent, Request, is_changed, switch_numbered, change_request, barrier_request, sent_for, sent_from}
+use Rattle.round_messages.specs.Requests.{Sent, Request, is_changed, switch_numbered, switches_changed, change_request, barrier_request, round_requests, sent_for, sent_from}
 use Rattle.round_messages.specs.ToSwitch.{messages_to}
-use Rattle.round_messages.proofs.BySwitch.{no_barrier}
-use Rattle.turned_rounds.specs.Batches.{next_xid, xid_behind, outgoing_of}
+use Rattle.round_messages.proofs.BySwitch.{no_barrier, messages_in_turn}
+use Rattle.turned_rounds.specs.Batches.{next_if, xid_behind, batch_of, outgoing_of}
 use Rattle.turned_rounds.specs.declared.outgoing.Outgoing.{Outgoing}
+use Rattle.turned_rounds.proofs.NumberLaws.{next_is, xid_is, batch_is}
 use Rattle.update_driver.specs.Drivers.{barrier_in}
 use Rattle.update_driver.proofs.AskedLaws.{barrier_in-change}
 use Rattle.two_way_driver.specs.PeerStates.{PeerState}
 use Rattle.two_way_driver.specs.Peers.{first_peer, asks}
-use Rattle.two_way_driver.specs.Drivers.{is_to, asks_if, next_if, asked_from}
+use Rattle.two_way_driver.specs.Drivers.{is_to, asks_if, asked_from}
 use Rattle.two_way_driver.specs.Sending.{texts_for}
-use Rattle.driver_agreement.proofs.SwitchLaws.{x}
+use Rattle.update_driver.proofs.SwitchLaws.{x}
 
 -- ---- the messages of a round
-
-pub next_of : (y : ℕ) → y + 1 ≤ 4294967295 → next_xid y ≡ suc y
-next_of y few = cond-false (eqb y 4294967295) 1 (suc y) (ne_eqb y 4294967295 (λ e. omega arith))
-
-pub behind_is : (y n : ℕ) → y + n ≤ 4294967295 → xid_behind y n ≡ y + n
-behind_is y zero few = let e : y ≡ y + zero = omega arith in e
-behind_is y (suc n) few =
-    let e : suc y + n ≡ y + suc n = omega arith in
-    ap (λ z. xid_behind z n) (next_of y (omega arith)) ∙ behind_is (suc y) n (omega arith) ∙ e
 
 pub concat_texts : (ms : List Message) → concat (map wire_text ms) ≡ flat_map wire_text ms
 concat_texts [] = refl
@@ -130,7 +125,7 @@ module _ (k : ℕ) (round : List Change) where
   abbrev pub asks_so : PeerState → Option ℕ → PeerState
   asks_so p o = option_map_or (λ x. asks x p) o p
 
-  pub asked_barrier : (y n : ℕ) (peers : List PeerState) (i : ℕ) → i < length peers → y + length peers ≤ 4294967295
+  pub asked_barrier : (y n : ℕ) (peers : List PeerState) (i : ℕ) → i < length peers → y + length (changed_from n (length peers)) ≤ 4294967295
       → get_or (asked_from y round n peers) i first_peer ≡ asks_so (get_or peers i first_peer) (barrier_in (barriers_to (switch_numbered (n + i)) y (changed_from n (length peers))))
   asked_barrier y n [] i less few = absurd (omega arith)
   asked_barrier y n (p ∷ peers) zero less few =
@@ -152,15 +147,52 @@ module _ (k : ℕ) (round : List Change) where
       let q = get_or peers i first_peer in
       let step : suc n ≡ n + 1 = omega arith in
       let Rest : ℕ → Type 0 = λ z. get_or (asked_from z round (suc n) peers) i first_peer ≡ asks_so q (barrier_in (barriers_to s z (changed_from (n + 1) m))) in
-      let later : (z : ℕ) → z + m ≤ 4294967295 → Rest z = λ z fits. (
-      asked_barrier z (suc n) peers i (omega arith) fits ∙ ap (λ (j : ℕ). asks_so q (barrier_in (barriers_to (switch_numbered j) z (changed_from (suc n) m)))) place
+      let same : length (changed_from (suc n) m) ≡ length (changed_from (n + 1) m) = ap (λ (j : ℕ). length (changed_from j m)) step in
+      let later : (z : ℕ) → z + length (changed_from (n + 1) m) ≤ 4294967295 → Rest z = λ z fits. (
+      asked_barrier z (suc n) peers i (omega arith) (omega arith) ∙ ap (λ (j : ℕ). asks_so q (barrier_in (barriers_to (switch_numbered j) z (changed_from (suc n) m)))) place
       ∙ ap (λ (j : ℕ). asks_so q (barrier_in (barriers_to s z (changed_from j m)))) step) in
       elim (cases_Bool (is_changed round (switch_numbered n))) [
         | inl on ↦
+            let count : length (changed_from n (suc m)) ≡ suc (length (changed_from (n + 1) m)) = ap length (changed_first n m on) in
             ap (λ t. get_or (asked_from (next_if t y) round (suc n) peers) i first_peer) on
-            ∙ ap (λ z. get_or (asked_from z round (suc n) peers) i first_peer) (next_of y (omega arith)) ∙ later (suc y) (omega arith)
+            ∙ ap (λ z. get_or (asked_from z round (suc n) peers) i first_peer) (next_is y (omega arith)) ∙ later (suc y) (omega arith)
             ∙ ap (λ (l : List Message). asks_so q (barrier_in l)) (sym (ap (barriers_to s y) (changed_first n m on) ∙ barrier_past s (switch_numbered n) (changed_from (n + 1) m) y (ne_eqb n (n + suc i) (λ e. omega arith))))
         | inr off ↦
+            let count : length (changed_from n (suc m)) ≡ length (changed_from (n + 1) m) = ap length (changed_later n m off) in
             ap (λ t. get_or (asked_from (next_if t y) round (suc n) peers) i first_peer) off ∙ later y (omega arith)
             ∙ ap (λ (l : List Message). asks_so q (barrier_in l)) (sym (ap (barriers_to s y) (changed_later n m off)))
       ]
+
+-- ---- the messages of a round that has few enough
+
+length-sent : (y : ℕ) (rs : List Request) → length (sent_from y rs) ≡ length rs
+length-sent y [] = refl
+length-sent y (r ∷ rs) = ap suc (length-sent (suc y) rs)
+
+each_map : {A : Type 0} (k : ℕ) (f : A → Request) → ((x : A) → (f x).round ≡ k) → (xs : List A) → AllByRecursion (λ (r : Request). r.round ≡ k) (map f xs)
+each_map k f h [] = tt
+each_map k f h (x ∷ xs) = (h x, each_map k f h xs)
+
+module _ (net : Network) (k first : ℕ) (round : List Change) (few : first + length (round_requests net k round) ≤ 4294967295) where
+  -- the xid behind them
+  pub batch_behind : xid_behind first (length (batch_of net first round)) ≡ first + length (round_requests net k round)
+  batch_behind =
+      let count : length (batch_of net first round) ≡ length (round_requests net k round) =
+      ap length (sym (batch_is net k first round few)) ∙ length-map (sent_from first (round_requests net k round)) outgoing_of ∙ length-sent first (round_requests net k round) in
+      ap (xid_behind first) count ∙ xid_is first (length (round_requests net k round)) few
+
+  in_round : AllByRecursion (λ (r : Request). r.round ≡ k) (round_requests net k round)
+  in_round =
+      each_append (λ (r : Request). r.round ≡ k) (map (change_request k) round) (map (barrier_request k) (switches_changed net round)) (each_map k (change_request k) (λ c. refl) round)
+      (each_map k (barrier_request k) (λ s. refl) (switches_changed net round))
+
+  pub batch_texts : (s : SwitchId) → texts_for s (batch_of net first round) ≡ map wire_text (messages_to k s (sent_from first (round_requests net k round)))
+  batch_texts s = ap (texts_for s) (sym (batch_is net k first round few)) ∙ texts_are k s first (round_requests net k round) in_round
+
+  -- the barrier request to a switch is one of those behind the changes
+  pub barrier_is : (s : SwitchId) → barrier_in (messages_to k s (sent_from first (round_requests net k round))) ≡ barrier_in (barriers_to k round s (first + length round) (changed_from k round 0 (switch_count net)))
+  barrier_is s =
+      let changes = map (change_request k) round in
+      ap barrier_in (messages_in_turn k s first changes (map (barrier_request k) (switches_changed net round)))
+      ∙ no_barrier_in k s first round (barriers_to k round s (first + length changes) (switches_changed net round))
+      ∙ ap (λ (n : ℕ). barrier_in (barriers_to k round s (first + n) (switches_changed net round))) (length-map round (change_request k))

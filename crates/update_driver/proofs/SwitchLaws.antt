@@ -4,14 +4,12 @@ use Rattle.std.specs.Prelude.{Option, Some, None, is_some, is_none}
 use Rattle.std.specs.List.{concat, list_all}
 use Rattle.std.proofs.lemmas.Bool.{cond_both, ltb-true, ltb-false}
 use Rattle.std.proofs.lemmas.List.Folds.{concat-append}
-use Rattle.update_model.specs.declared.Event.{Event}
 use Rattle.switch_session.specs.Channels.{ChannelState, first_channel, hello, is_open, is_failed, after_byte}
 use Rattle.switch_session.specs.Laws.{KeepsBarrier, ReadsAll}
 use Rattle.switch_session.specs.declared.Session.{Session}
 use Rattle.switch_session.specs.declared.Session.TheVariants.{Waiting, Open, Failed}
 use Rattle.switch_session.proofs.ByteLaws.{keeps_barrier}
 use Rattle.switch_session.proofs.RequestLaws.{reads_bytes}
-use Rattle.two_way_runs.specs.States as two_way
 use Rattle.update_driver.specs.Drivers.{none_outstanding, is_answered}
 use Rattle.update_driver.proofs.PieceLaws.{parts}
 use Rattle.two_way_driver.specs.PeerStates.{PeerState}
@@ -21,10 +19,7 @@ use Rattle.two_way_driver.specs.declared.Stage.{Stage}
 use Rattle.two_way_driver.specs.declared.Stage.TheVariants.{Settled, Onward, Undone}
 use Rattle.two_way_driver.specs.declared.peers.ByteOutcome.{ByteOutcome}
 use Rattle.two_way_driver.specs.declared.peers.ByteOutcome.TheVariants.{Nothing, Opened, Answered, Replied}
-use Rattle.driver_agreement.proofs.ByteLaws.{with_sent, Grows, byte_grows}
-
-abbrev pub events_of : List Event → List two_way.TwoWayEvent
-events_of log = map two_way.Onward log
+use Rattle.update_driver.proofs.ByteLaws.{with_sent, Grows, byte_grows}
 
 -- ---- the barrier requests that wait for answers
 
