@@ -1,15 +1,14 @@
 -- The two drivers do the same: byte by byte, and when a round starts.
-use Rattle.std.proofs.Common.{◌≡◌, ◌≢◌, ℕ, zero, suc, ◌+◌, ◌<◌, ◌≤◌, Bool, true, false, cond, eqb, ltb, not, ◌&&◌, List, [], ◌∷◌, ◌++◌, length, map, take, drop, replicate, set, get_or, get_or-set_same, get_or-set_other, refl, sym, ap, ◌∙◌, subst, inl, inr, append-nil, length-set, length-append, arith}
+use Rattle.std.proofs.Common.{◌≡◌, ◌≢◌, ℕ, zero, suc, ◌+◌, ◌<◌, ◌≤◌, Bool, true, false, cond, eqb, ltb, not, ◌&&◌, List, [], ◌∷◌, ◌++◌, length, map, take, drop, replicate, set, get_or, get_or-set_same, get_or-set_other, refl, sym, ap, ◌∙◌, subst, inl, inr, append-nil, length-set, arith}
 use Rattle.std.specs.Prelude.{Option, Some, None, is_some, is_none, flat_map}
 use Rattle.std.specs.List.{AllByRecursion, concat, cons_option}
 use Rattle.std.specs.Option.{option_map, option_map_or}
 use Rattle.std.proofs.lemmas.Bool.{cases_Bool, cases_eq, cond-true, cond-false, cond_both, eq-eqb, ne_eqb, ltb-true, ltb-false}
-use Rattle.std.proofs.lemmas.List.{length-replicate, map-append, drop_at, take_more, length-take-le, length-map, set-set, get_or_past}
+use Rattle.std.proofs.lemmas.List.{length-replicate, map-append, drop_at, set-set, get_or_past}
 use Rattle.std.proofs.lemmas.List.Elements.{filter_map-append}
 use Rattle.std.proofs.lemmas.List.Folds.{concat-append}
 use Rattle.std.proofs.lemmas.List.Sums.{sum_by_more_le}
 use Rattle.net_base.specs.declared.ids.SwitchId.{SwitchId}
-use Rattle.net_base.proofs.MemberLaws.{each_append}
 use Rattle.topology.specs.Networks.{Network, switch_count}
 use Rattle.update_model.specs.Changes.{switch_of, changes_at, round_after}
 use Rattle.update_model.specs.States.{phase_after_settle, settled_count}
@@ -21,25 +20,25 @@ use Rattle.update_model.specs.declared.Phase.{Phase}
 use Rattle.update_model.specs.declared.Phase.TheVariants as phase
 use Rattle.openflow10.specs.Messages.{wire_text}
 use Rattle.openflow10.specs.declared.Message.{Message}
-use Rattle.round_messages.specs.Requests.{Request, is_changed, switch_numbered, switches_changed, change_request, barrier_request, round_requests, requests_from, sent_from, first_xid}
+use Rattle.round_messages.specs.Requests.{is_changed, switch_numbered, switches_changed, round_requests, sent_from, first_xid}
 use Rattle.round_messages.specs.ToSwitch.{messages_to, AreFor}
-use Rattle.round_messages.proofs.BySwitch.{each_round, round_alone, messages_in_turn}
+use Rattle.round_messages.proofs.BySwitch.{each_round, round_alone}
 use Rattle.switch_session.specs.Channels.{ChannelState, first_channel, hello, is_open, is_failed, after_request, after_byte}
 use Rattle.switch_session.specs.declared.Session.{Session}
 use Rattle.switch_session.specs.declared.Session.TheVariants.{Waiting, Open, Failed}
 use Rattle.switch_session.proofs.TalkLaws.{front_nil}
-use Rattle.turned_rounds.specs.Batches.{xid_behind, batch_of, outgoing_of}
+use Rattle.turned_rounds.specs.Batches.{xid_behind, batch_of}
 use Rattle.turned_rounds.specs.declared.outgoing.Outgoing.{Outgoing}
-use Rattle.turned_rounds.proofs.NumberLaws.{xid_is, batch_is}
+use Rattle.turned_rounds.proofs.NumberLaws.{xid_is}
 use Rattle.two_way_runs.specs.States as two_way
 use Rattle.two_way_runs.specs.Laws.{onward_events}
 use Rattle.update_driver.specs.Drivers as one
 use Rattle.update_driver.specs.Drivers.{DriverState as OnwardState, channel_at, with_channel, none_outstanding, change_events, is_answered, messages_for, barrier_in, told_channel, told_all}
 use Rattle.update_driver.specs.Calls as onward
 use Rattle.update_driver.specs.Laws.{begun_count}
-use Rattle.update_driver.proofs.ListLaws.{get_replicated}
+use Rattle.update_driver.proofs.ListLaws.{get_replicated, none_is}
 use Rattle.update_driver.proofs.CountLaws.{round_parts, round_few, requests_few, next_first}
-use Rattle.update_driver.proofs.SoundLaws.{IsSound, MayBegin, length-told_all, sound_first, sound_fed, sound_call, may_begin, begun, none_is}
+use Rattle.update_driver.proofs.SoundLaws.{IsSound, MayBegin, length-told_all, sound_first, sound_fed, sound_call, may_begin, begun}
 use Rattle.update_driver.proofs.AskedLaws.{barrier_for, told_at}
 use Rattle.update_driver.proofs.PieceLaws.{parts, fed-append, fed-nil}
 use Rattle.two_way_driver.specs.PeerStates.{PeerState}
@@ -60,7 +59,7 @@ use Rattle.two_way_driver.specs.declared.peers.ByteOutcome.TheVariants.{Nothing,
 use Rattle.two_way_driver.proofs.ServingLaws.{length-asked}
 use Rattle.two_way_driver.proofs.SendingLaws.{texts-append, quiet, texts_open, changes_quiet, hello_first}
 use Rattle.update_driver.specs.Agreement.{two_way_call, Agree}
-use Rattle.update_driver.proofs.SwitchLaws.{same_waits, none_at, PeerAs, IsOnward, x, g, unanswered_heard, heard_is, more_none, peer_unanswered, peer_answered, opened_none}
+use Rattle.update_driver.proofs.SwitchLaws.{same_waits, none_at, open_session, PeerAs, IsOnward, x, g, unanswered_heard, heard_is, more_none, peer_unanswered, peer_answered, opened_none}
 use Rattle.update_driver.proofs.MessageLaws.{concat_texts, none_passes, find_alike, none_found, barriers_to, changed_from, asks_so, asked_barrier, batch_behind, batch_texts, barrier_is}
 
 -- ---- events
@@ -405,11 +404,6 @@ module _ (net : Network) (rounds inverses : List (List Change)) (drivable : onwa
             ap (λ (p : PeerState). is_open p.channel.session) (get_or_past e.peers s.0 first_peer (omega arith)) ∙ sym (ap (λ (c : ChannelState). is_open c.session) (get_or_past d.channels s.0 first_channel (omega arith))))
       ]
 
-  open_session : (x : Session) → is_open x ≡ true → x ≡ Open
-  open_session Waiting e = absurd (let f : false ≡ true = e in cc)
-  open_session Open e = refl
-  open_session (Failed why) e = absurd (let f : false ≡ true = e in cc)
-
   same_missing : (d : OnwardState) (e : DriverState) → Follows net rounds inverses d e → (switches : List SwitchId) → first_not_open e.peers switches ≡ one.first_not_open d switches
   same_missing d e f switches =
       find_alike (λ (s : SwitchId). not (is_open (get_or e.peers s.0 first_peer).channel.session)) (λ (s : SwitchId). not (is_open (channel_at d s).session)) (λ s. ap not (same_sessions d e f s)) switches
@@ -556,7 +550,7 @@ module _ (net : Network) (rounds inverses : List (List Change)) (drivable : onwa
       let allowed = is_none (one.start_fault net rounds d) in
       subst (Both allowed) (sym (same_fault d e f))
       (elim (cases_Bool allowed) [
-        | inl granted ↦ subst (λ t. Both t t) (sym granted) (started_in net rounds e.stage e, refl, starts d e sound f (none_is net rounds (one.start_fault net rounds d) granted))
+        | inl granted ↦ subst (λ t. Both t t) (sym granted) (started_in net rounds e.stage e, refl, starts d e sound f (none_is (one.start_fault net rounds d) granted))
         | inr refused ↦ subst (λ t. Both t t) (sym refused) (e, refl, f)
       ])
   call_follows d e (onward.Feed s bytes) ok sound f = (state_after_bytes net rounds inverses s bytes e, refl, fed_follows net rounds inverses s bytes d e ok sound f)

@@ -1,42 +1,36 @@
 -- What a driver keeps from call to call.
-use Rattle.std.proofs.Common.{◌≡◌, ℕ, zero, suc, ◌+◌, ◌*◌, ◌<◌, ◌≤◌, ◌^◌, Bool, true, false, cond, eqb, not, ◌&&◌, List, [], ◌∷◌, ◌++◌, length, map, take, replicate, set, get_or, get_or-set_same, get_or-set_other, refl, sym, ap, ◌∙◌, subst, ◌⊎◌, inl, inr, length-append, length-set, arith}
-use Rattle.std.specs.Prelude.{Option, Some, None, is_some, is_none, sum_by, Result, Ok, Err, OnOk, OnErr}
-use Rattle.std.specs.List.{AllByRecursion, list_all}
+use Rattle.std.proofs.Common.{◌≡◌, ℕ, suc, ◌+◌, ◌<◌, ◌≤◌, ◌^◌, true, false, cond, eqb, List, [], ◌∷◌, ◌++◌, length, take, get_or, refl, sym, ap, ◌∙◌, subst, arith}
+use Rattle.std.specs.Prelude.{Option, Some, None, is_none, Result, Ok, Err, OnOk, OnErr}
 use Rattle.std.specs.Option.{option_map}
-use Rattle.std.proofs.lemmas.Bool.{cases_Bool, cases_eq, cond-true, cond-false, cond_both}
-use Rattle.std.proofs.lemmas.List.{length-take-le, take_more}
+use Rattle.std.proofs.lemmas.Bool.{cond-true, cond_both}
+use Rattle.std.proofs.lemmas.List.{length-take-le}
 use Rattle.std.proofs.lemmas.List.Sums.{sum_by_more_le}
 use Rattle.std.proofs.lemmas.Result.{on_ok_weaker, on_err_weaker}
 use Rattle.net_base.specs.declared.ids.SwitchId.{SwitchId}
 use Rattle.net_base.proofs.MemberLaws.{each_append}
 use Rattle.topology.specs.Networks.{Network, switch_count}
 use Rattle.update_model.specs.Changes.{round_after}
-use Rattle.update_model.specs.States.{phase_after_settle, settled_count}
+use Rattle.update_model.specs.States.{settled_count}
 use Rattle.update_model.specs.Worlds.{running_round}
-use Rattle.update_model.specs.Ranges.{IsPlanChange}
 use Rattle.update_model.specs.declared.Change.{Change}
 use Rattle.update_model.specs.declared.Event.{Event}
 use Rattle.update_model.specs.declared.Event.TheVariants as event
 use Rattle.update_model.specs.declared.Phase.{Phase}
 use Rattle.update_model.specs.declared.Phase.TheVariants.{Settled, Running}
-use Rattle.round_messages.specs.Requests.{switches_changed, switch_numbered, first_xid, requests_from, round_requests, sent_from}
+use Rattle.round_messages.specs.Requests.{switches_changed, first_xid, round_requests, sent_from}
 use Rattle.round_messages.proofs.Requests.{request_count}
 use Rattle.switch_session.specs.Channels.{ChannelState, first_channel, after_bytes}
-use Rattle.switch_session.specs.Laws.{KeepsBarrier}
 use Rattle.switch_session.specs.Seen.{ChannelView}
-use Rattle.switch_session.proofs.ByteLaws.{keeps_barrier}
-use Rattle.update_driver.specs.Drivers.{DriverState, first_driver, first_not_open, start_fault_in, channel_at, with_channel, none_outstanding, settled_if_answered, change_events, made_driver, is_answered, heard_driver, driver_after_bytes, told_all, started_driver, start_fault, started_phase}
-use Rattle.update_driver.specs.Calls.{Call, Start, Feed, IsCall, after_call, after_calls, driver_after, AreDrivable, DriverView, IsMadeByCalls}
+use Rattle.update_driver.specs.Drivers.{DriverState, first_driver, first_not_open, start_fault_in, channel_at, with_channel, settled_if_answered, change_events, made_driver, is_answered, driver_after_bytes, told_all, started_driver, start_fault, started_phase}
+use Rattle.update_driver.specs.Calls.{Call, Start, Feed, IsCall, after_call, after_calls, AreDrivable, DriverView, IsMadeByCalls}
 use Rattle.update_driver.specs.Laws.{LogIsRun, begun_count}
 use Rattle.update_driver.specs.Answers.{with_state, IsStartRefusal}
-use Rattle.update_driver.specs.Inside.{states_of, with_states, MayStartWith, HoldMessages, IsDriver, IsPhaseWithin, begun_by_turns, heard_with, told_by_turns}
+use Rattle.update_driver.specs.Inside.{states_of, with_states, MayStartWith, HoldMessages, IsDriver, begun_by_turns, told_by_turns}
 use Rattle.update_driver.specs.declared.StartFault.{StartFault}
 use Rattle.update_driver.specs.declared.StartFault.TheVariants as fault
 use Rattle.update_driver.specs.declared.turns.SwitchStart.{SwitchStart}
-use Rattle.update_driver.proofs.ListLaws.{all_at}
 use Rattle.update_driver.proofs.CountLaws.{next_first}
-use Rattle.update_driver.proofs.SoundLaws.{no_barrier, IsSound, sound_driver, begun, settled_begun}
-use Rattle.update_driver.proofs.PieceLaws.{parts}
+use Rattle.update_driver.proofs.SoundLaws.{IsSound, sound_driver, begun, settled_begun}
 use Rattle.update_driver.proofs.LogLaws.{log_is_run}
 use Rattle.update_driver.proofs.StartLaws.{state_at, length-states, told_round}
 use Rattle.net_base.specs.Switches.{most_switches}
@@ -73,10 +67,6 @@ module _ (v : DriverView) (xid : ℕ) (inv : IsDriver v xid) (s : SwitchId) (wit
 
   abbrev next : DriverState
   next = driver_after_bytes v.rounds s bytes v.state
-
-  -- its changes of the running round are logged where it answers
-  pub heard_is : (round : List Change) → round ≡ running_round v.state.phase v.rounds → heard_with s.0 (change_events s 0 round) bytes v.state ≡ next
-  heard_is round is = ap (λ (r : List Change). heard_with s.0 (change_events s 0 r) bytes v.state) is
 
   next_begun : begun_count next.phase ≡ begun_count v.state.phase
   next_begun =
@@ -160,22 +150,19 @@ module _ (net : Network) (rounds : List (List Change)) (phase : Phase) (log : Li
   abbrev at_state : DriverState → DriverView
   at_state d = record { net = net; rounds = rounds; state = d }
 
-  module _ {T E : Type 0} (s : SwitchId) (bytes : List ℕ) (lt : s.0 < switch_count v.net) (round : List Change) (is : round ≡ running_round phase rounds) (next : DriverState) (r : Result T E)
-      (ok : OnOk r (next ≡ heard_with s.0 (change_events s 0 round) bytes (with_states phase log channels))) (err : OnErr r (next ≡ with_states phase log channels)) where
+  module _ {T E : Type 0} (s : SwitchId) (bytes : List ℕ) (lt : s.0 < switch_count v.net) (next : DriverState) (r : Result T E)
+      (ok : OnOk r (next ≡ driver_after_bytes rounds s bytes (with_states phase log channels))) (err : OnErr r (next ≡ with_states phase log channels)) where
     within_here : s.0 < switch_count net
     within_here = let same = ap (λ (w : DriverView). switch_count w.net) seen in omega arith
-
-    fed_here : next ≡ heard_with s.0 (change_events s 0 round) bytes (with_states phase log channels) → next ≡ driver_after_bytes rounds s bytes (with_states phase log channels)
-    fed_here e = e ∙ heard_is here xid inv s within_here bytes round is
 
     pub feed_keeps : IsDriver (at_state next) xid
     feed_keeps =
         either (IsDriver (at_state next) xid) r ok err
-        (λ e. subst (λ d. IsDriver (at_state d) xid) (sym (fed_here e)) (fed_driver here xid inv s within_here bytes))
+        (λ e. subst (λ d. IsDriver (at_state d) xid) (sym e) (fed_driver here xid inv s within_here bytes))
         (λ e. subst (λ d. IsDriver (at_state d) xid) (sym e) inv)
 
     pub feed_ok : OnOk r (at_state next ≡ with_state (driver_after_bytes v.rounds s bytes v.state) v)
-    feed_ok = on_ok_weaker r (λ e. ap at_state (fed_here e) ∙ ap (λ (w : DriverView). with_state (driver_after_bytes w.rounds s bytes w.state) w) seen) ok
+    feed_ok = on_ok_weaker r (λ e. ap at_state e ∙ ap (λ (w : DriverView). with_state (driver_after_bytes w.rounds s bytes w.state) w) seen) ok
 
     pub feed_err : OnErr r (at_state next ≡ v)
     feed_err = on_err_weaker r (λ e. ap at_state e ∙ seen) err

@@ -1,5 +1,6 @@
 -- Places of lists, and tests of all elements.
 use Rattle.std.proofs.Common.{◌≡◌, ℕ, zero, suc, ◌<◌, Bool, true, false, ◌&&◌, List, [], ◌∷◌, length, replicate, set, get_or, refl, ap, arith}
+use Rattle.std.specs.Prelude.{Option, Some, None, is_none}
 use Rattle.std.specs.List.{AllByRecursion, list_all}
 
 -- each place of a list of one element has it, and so has each behind the list
@@ -8,7 +9,7 @@ get_replicated zero i a = refl
 get_replicated (suc n) zero a = refl
 get_replicated (suc n) (suc i) a = get_replicated n i a
 
-and_parts_of : (a b : Bool) → (a && b) ≡ true → (a ≡ true) × (b ≡ true)
+pub and_parts_of : (a b : Bool) → (a && b) ≡ true → (a ≡ true) × (b ≡ true)
 and_parts_of true b e = (refl, e)
 and_parts_of false b e = absurd (let f : false ≡ true = e in cc)
 
@@ -43,3 +44,7 @@ pub each_get : {A : Type 0} (P : A → Type 0) (xs : List A) (i : ℕ) (d : A) �
 each_get P [] i d all lt = absurd (omega arith)
 each_get P (x ∷ xs) zero d all lt = all.0
 each_get P (x ∷ xs) (suc i) d all lt = each_get P xs i d all.1 (omega arith)
+
+pub none_is : {A : Type 0} (o : Option A) → is_none o ≡ true → o ≡ None
+none_is None e = refl
+none_is (Some x) e = absurd (let f : false ≡ true = e in cc)

@@ -1,5 +1,5 @@
 -- It makes no difference in which pieces bytes come from a switch.
-use Rattle.std.proofs.Common.{◌≡◌, ℕ, zero, suc, ◌<◌, ◌≤◌, Bool, true, false, cond, ltb, ◌&&◌, List, [], ◌∷◌, ◌++◌, length, set, get_or, get_or-set_same, refl, sym, ap, ◌∙◌, subst, ◌⊎◌, inl, inr, map, arith}
+use Rattle.std.proofs.Common.{◌≡◌, ℕ, zero, suc, ◌<◌, ◌≤◌, Bool, true, false, cond, ltb, ◌&&◌, List, [], ◌∷◌, ◌++◌, length, set, get_or, get_or-set_same, refl, sym, ap, ◌∙◌, subst, inl, inr, map, arith}
 use Rattle.std.specs.Prelude.{Option, Some, None, is_some, is_none}
 use Rattle.std.proofs.lemmas.Bool.{cases_Bool, cond-true, cond-false, ltb-true, ltb-false}
 use Rattle.std.proofs.lemmas.List.{set-set}

@@ -1,6 +1,6 @@
 -- What is sent to a switch: replies to its echo requests, and its messages of the rounds that were begun.
-use Rattle.std.proofs.Common.{◌≡◌, ℕ, zero, suc, ◌+◌, ◌<◌, ◌≤◌, Bool, true, false, cond, eqb, ltb, ◌&&◌, List, [], ◌∷◌, ◌++◌, length, map, replicate, set, get_or, get_or-set_same, get_or-set_other, refl, sym, ap, ◌∙◌, subst, ◌⊎◌, inl, inr, append_assoc, append-nil, arith}
-use Rattle.std.specs.Prelude.{flat_map, filter, filter_map, Option, Some, None, is_none}
+use Rattle.std.proofs.Common.{◌≡◌, ℕ, suc, ◌+◌, ◌<◌, ◌≤◌, Bool, false, cond, eqb, ltb, ◌&&◌, List, [], ◌∷◌, ◌++◌, length, map, set, get_or, get_or-set_same, get_or-set_other, refl, sym, ap, ◌∙◌, subst, inl, inr, append_assoc, append-nil, arith}
+use Rattle.std.specs.Prelude.{flat_map, filter, filter_map, Option, is_none}
 use Rattle.std.specs.List.{AllByRecursion}
 use Rattle.std.specs.Option.{option_map_or}
 use Rattle.std.proofs.lemmas.Bool.{cases_Bool, cases_eq, ltb-true, ltb-false, cond-true, cond-false, cond_both, eq-eqb, ne_eqb, lt-ltb, le-ltb}
@@ -17,10 +17,9 @@ use Rattle.update_model.specs.Worlds.{running_round}
 use Rattle.update_model.specs.declared.Change.{Change}
 use Rattle.update_model.specs.declared.Event.TheVariants as event
 use Rattle.update_model.specs.declared.Phase.{Phase}
-use Rattle.update_model.specs.declared.Phase.TheVariants.{Settled, Running}
 use Rattle.openflow10.specs.Messages.{wire_text}
 use Rattle.openflow10.specs.declared.Message.{Message}
-use Rattle.round_messages.specs.Requests.{Sent, Request, switches_changed, switch_numbered, change_request, barrier_request, round_requests, requests_from, sent_for, sent_from, sent_in}
+use Rattle.round_messages.specs.Requests.{Sent, Request, switches_changed, switch_numbered, change_request, barrier_request, round_requests, requests_from, sent_from, sent_in}
 use Rattle.round_messages.specs.ToSwitch.{messages_to, AreFor}
 use Rattle.round_messages.proofs.Requests.{sent_from-append}
 use Rattle.round_messages.proofs.BySwitch.{messages_to-append, each_round}
@@ -28,11 +27,11 @@ use Rattle.switch_session.specs.Channels.{ChannelState, first_channel, hello, ec
 use Rattle.switch_session.specs.Laws.{AreRequests, ReadsAll}
 use Rattle.switch_session.proofs.TalkLaws.{front_nil}
 use Rattle.switch_session.proofs.RequestLaws.{requests_first, requests_as, requests_fed, reads_bytes}
-use Rattle.update_driver.specs.Drivers.{DriverState, first_driver, channel_at, with_channel, none_outstanding, settled_if_answered, change_events, made_driver, is_answered, heard_driver, driver_after_bytes, messages_for, barrier_in, told_channel, told_all, started_driver, start_fault, started_phase}
-use Rattle.update_driver.specs.Calls.{Call, Start, Feed, IsCall, AreDrivable, bytes_in, bytes_from, after_call, after_calls, driver_after}
+use Rattle.update_driver.specs.Drivers.{DriverState, first_driver, channel_at, with_channel, none_outstanding, settled_if_answered, change_events, made_driver, is_answered, driver_after_bytes, messages_for, told_channel, told_all, started_driver, start_fault, started_phase}
+use Rattle.update_driver.specs.Calls.{Call, Start, Feed, IsCall, bytes_in, bytes_from, after_call, after_calls, driver_after}
 use Rattle.update_driver.specs.Laws.{Part, Reply, Ask, part_text, request_in, message_in, begun_count, messages_until, SendsOnly}
-use Rattle.update_driver.proofs.ListLaws.{get_replicated}
-use Rattle.update_driver.proofs.SoundLaws.{IsSound, MayBegin, sound_first, sound_call, may_begin, begun, none_is, begun_settled}
+use Rattle.update_driver.proofs.ListLaws.{get_replicated, none_is}
+use Rattle.update_driver.proofs.SoundLaws.{IsSound, MayBegin, sound_first, sound_call, may_begin, begun, begun_settled}
 use Rattle.update_driver.proofs.AskedLaws.{barrier_for, told_at}
 
 -- ---- the messages of the rounds before, and those of the next one
@@ -295,7 +294,7 @@ module _ (net : Network) (rounds : List (List Change)) (plan : AllByRecursion (A
   all_called came d Start ok sound h =
       all_same came (with_call came Start) (after_call net rounds d Start) (λ s. sym (append-nil (came s)))
       (cond_both (is_none (start_fault net rounds d)) (started_driver net rounds d) d (AllSent came)
-      (λ e. let may = may_begin net rounds d sound (none_is net rounds (start_fault net rounds d) e) in all_settled came (begun net rounds d) (all_begun came d sound may h)) (λ e. h))
+      (λ e. let may = may_begin net rounds d sound (none_is (start_fault net rounds d) e) in all_settled came (begun net rounds d) (all_begun came d sound may h)) (λ e. h))
   all_called came d (Feed t bytes) ok sound h = let count = sound.count in all_fed came d t bytes (omega arith) h
 
   all_after : (came : SwitchId → List ℕ) (d : DriverState) (calls : List Call) → AllByRecursion (IsCall net) calls → IsSound net rounds d → AllSent came d

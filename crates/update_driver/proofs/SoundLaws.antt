@@ -1,9 +1,8 @@
 -- What holds of the state of every driver.
-use Rattle.std.proofs.Common.{◌≡◌, ℕ, zero, suc, ◌+◌, ◌<◌, ◌≤◌, Bool, true, false, cond, not, eqb, ◌&&◌, List, [], ◌∷◌, ◌++◌, length, set, get_or, refl, sym, ap, ◌∙◌, subst, ◌⊎◌, inl, inr, length-set, arith}
-use Rattle.std.specs.Prelude.{Option, Some, None, is_some, is_none}
-use Rattle.std.specs.List.{AllByRecursion, list_all}
+use Rattle.std.proofs.Common.{◌≡◌, ℕ, zero, suc, ◌<◌, Bool, true, false, cond, eqb, ◌&&◌, List, [], ◌∷◌, ◌++◌, length, set, refl, sym, ap, ◌∙◌, subst, ◌⊎◌, inl, inr, length-set, arith}
+use Rattle.std.specs.Prelude.{Some, None, is_some, is_none}
 use Rattle.std.specs.Option.{option_map}
-use Rattle.std.proofs.lemmas.Bool.{cases_Bool, cond-true, cond-false, cond_both, eqb-false}
+use Rattle.std.proofs.lemmas.Bool.{cases_Bool, cond-true, cond_both, eqb-false}
 use Rattle.std.proofs.lemmas.List.{length-replicate}
 use Rattle.net_base.specs.declared.ids.SwitchId.{SwitchId}
 use Rattle.topology.specs.Networks.{Network, switch_count}
@@ -15,17 +14,16 @@ use Rattle.update_model.specs.declared.Event.{Event}
 use Rattle.update_model.specs.declared.Event.TheVariants as event
 use Rattle.update_model.specs.declared.Phase.{Phase}
 use Rattle.update_model.specs.declared.Phase.TheVariants.{Settled, Running}
-use Rattle.round_messages.specs.Requests.{switches_changed, switch_numbered}
+use Rattle.round_messages.specs.Requests.{switches_changed}
 use Rattle.switch_session.specs.Channels.{ChannelState, first_channel, after_bytes}
 use Rattle.switch_session.specs.Laws.{KeepsBarrier}
 use Rattle.switch_session.proofs.ByteLaws.{keeps_barrier}
-use Rattle.update_driver.specs.Drivers.{DriverState, first_driver, channel_at, with_channel, none_outstanding, settled_if_answered, change_events, made_driver, is_answered, heard_driver, driver_after_bytes, messages_for, told_channel, told_all, started_driver, first_not_open, start_fault_in, start_fault, started_phase}
-use Rattle.update_driver.specs.Calls.{Call, Start, Feed, IsCall, after_call, after_calls, driver_after}
+use Rattle.update_driver.specs.Drivers.{DriverState, first_driver, channel_at, with_channel, none_outstanding, settled_if_answered, change_events, made_driver, is_answered, driver_after_bytes, told_all, started_driver, first_not_open, start_fault_in, start_fault, started_phase}
+use Rattle.update_driver.specs.Calls.{Call, Start, Feed, after_call, after_calls, driver_after}
 use Rattle.update_driver.specs.Laws.{begun_count, WaitsForBarriers, BeginsAnswered}
 use Rattle.update_driver.specs.Inside.{IsPhaseWithin}
-use Rattle.update_driver.specs.declared.StartFault.{StartFault}
 use Rattle.update_driver.specs.declared.StartFault.TheVariants as fault
-use Rattle.update_driver.proofs.ListLaws.{all_at, all_set, all_replicate}
+use Rattle.update_driver.proofs.ListLaws.{all_at, all_set, all_replicate, none_is}
 
 -- ---- the rounds that were begun
 
@@ -139,10 +137,6 @@ module _ (net : Network) (rounds : List (List Change)) where
 
   pub sound_started : (d : DriverState) → IsSound net rounds d → MayBegin d → IsSound net rounds (started_driver net rounds d)
   sound_started d sound may = sound_settled (begun d) (sound_begun d sound may)
-
-  pub none_is : {A : Type 0} (o : Option A) → is_none o ≡ true → o ≡ None
-  none_is None e = refl
-  none_is (Some x) e = absurd (let f : false ≡ true = e in cc)
 
   pub sound_call : (d : DriverState) (c : Call) → IsSound net rounds d → IsSound net rounds (after_call net rounds d c)
   sound_call d Start sound =

@@ -1,5 +1,5 @@
 -- The steps of a start.
-use Rattle.std.proofs.Common.{◌≡◌, ℕ, zero, suc, ◌+◌, ◌-◌, ◌<◌, ◌≤◌, Bool, true, false, cond, eqb, not, ◌&&◌, List, [], ◌∷◌, ◌++◌, length, map, take, set, get_or, get_or-set_same, get_or-set_other, refl, sym, ap, ◌∙◌, subst, inl, inr, length-set, arith}
+use Rattle.std.proofs.Common.{◌≡◌, ℕ, zero, suc, ◌+◌, ◌<◌, ◌≤◌, Bool, true, false, eqb, not, ◌&&◌, List, [], ◌∷◌, ◌++◌, length, map, take, set, get_or, get_or-set_same, get_or-set_other, refl, sym, ap, ◌∙◌, subst, inl, inr, length-set, arith}
 use Rattle.std.specs.Prelude.{flat_map, filter, find, Option, Some, is_some, is_none}
 use Rattle.std.specs.List.{list_all, range_with_len}
 use Rattle.std.specs.Option.{option_map, option_map_or}
@@ -9,6 +9,7 @@ use Rattle.net_base.specs.declared.ids.SwitchId.{SwitchId}
 use Rattle.net_base.specs.Switches.{has}
 use Rattle.topology.specs.Networks.{Network, switch_count}
 use Rattle.update_model.specs.Changes.{round_after}
+use Rattle.update_model.specs.Worlds.{running_round}
 use Rattle.update_model.specs.declared.Change.{Change}
 use Rattle.update_model.specs.declared.Event.{Event}
 use Rattle.update_model.specs.declared.Phase.{Phase}
@@ -21,8 +22,8 @@ use Rattle.round_messages.specs.ToSwitch.{messages_to}
 use Rattle.round_messages.proofs.BySwitch.{round_alone}
 use Rattle.switch_session.specs.Channels.{ChannelState, first_channel, is_open, after_request, after_bytes}
 use Rattle.switch_session.specs.Seen.{ChannelView}
-use Rattle.update_driver.specs.Drivers.{DriverState, channel_at, none_outstanding, settled_if_answered, is_answered, first_not_open, start_fault_in, messages_for, barrier_in, told_channel, told_all}
-use Rattle.update_driver.specs.Inside.{states_of, with_states, heard_with, HoldMessages, HasRoomFrom, told_by_turn, told_by_turns}
+use Rattle.update_driver.specs.Drivers.{DriverState, channel_at, none_outstanding, settled_if_answered, change_events, is_answered, driver_after_bytes, first_not_open, start_fault_in, messages_for, barrier_in, told_channel, told_all}
+use Rattle.update_driver.specs.Inside.{states_of, with_states, HoldMessages, HasRoomFrom, told_by_turn, told_by_turns}
 use Rattle.update_driver.specs.declared.StartFault.TheVariants as fault
 use Rattle.update_driver.specs.declared.turns.SwitchStart.{SwitchStart}
 
@@ -160,13 +161,16 @@ hear_err phase log now channels n v old same at state =
     ap (λ l. with_states phase l (set channels n v)) same
     ∙ ap (λ l. let d : DriverState = record { phase = phase; log = log; channels = l } in d) (states_kept channels n v old (state ∙ ap (λ (x : ChannelView). x.state) at))
 
-module _ (phase : Phase) (log : List Event) (channels : List ChannelView) (n : ℕ) (lt : n < length channels) (events : List Event) (bytes : List ℕ) (v old : ChannelView) (at : old ≡ get_or channels n old)
+module _ (rounds : List (List Change)) (phase : Phase) (log : List Event) (channels : List ChannelView) (n : ℕ) (lt : n < length channels) (bytes : List ℕ) (v old : ChannelView) (at : old ≡ get_or channels n old)
     (state : v.state ≡ after_bytes bytes old.state) where
   abbrev before : ChannelState
   before = channel_at (with_states phase log channels) (switch_numbered n)
 
   abbrev after : ChannelState
   after = after_bytes bytes before
+
+  abbrev events : List Event
+  events = change_events (switch_numbered n) 0 (running_round phase rounds)
 
   before_is : before ≡ old.state
   before_is = state_at channels n old first_channel lt ∙ ap (λ (x : ChannelView). x.state) (sym at)
@@ -180,7 +184,7 @@ module _ (phase : Phase) (log : List Event) (channels : List ChannelView) (n : �
   abbrev with_log : List Event → List ChannelState → DriverState
   with_log l cs = record { phase = phase; log = l; channels = cs }
 
-  pub hear_not : (now : List Event) → now ≡ log → (is_some old.state.outstanding && is_none v.state.outstanding) ≡ false → with_states phase now (set channels n v) ≡ heard_with n events bytes (with_states phase log channels)
+  pub hear_not : (now : List Event) → now ≡ log → (is_some old.state.outstanding && is_none v.state.outstanding) ≡ false → with_states phase now (set channels n v) ≡ driver_after_bytes rounds (switch_numbered n) bytes (with_states phase log channels)
   hear_not now same fails =
       let test : is_answered before.outstanding after.outstanding ≡ false =
       ap (λ (c : ChannelState). is_answered c.outstanding after.outstanding) before_is ∙ ap (λ (c : ChannelState). is_answered old.state.outstanding c.outstanding) after_is ∙ fails in
@@ -188,7 +192,7 @@ module _ (phase : Phase) (log : List Event) (channels : List ChannelView) (n : �
       ∙ sym (cond-false (is_answered before.outstanding after.outstanding) (settled_if_answered (with_log (log ++ events) (set (states_of channels) n after))) (with_log log (set (states_of channels) n after)) test)
 
   pub hear_answered : (next : Phase) (more last : List Event) (now : List ChannelView) → now ≡ set channels n v → with_states next last now ≡ settled_if_answered (with_states phase more now) → more ≡ log ++ events
-      → is_some old.state.outstanding ≡ true → is_none v.state.outstanding ≡ true → with_states next last (set channels n v) ≡ heard_with n events bytes (with_states phase log channels)
+      → is_some old.state.outstanding ≡ true → is_none v.state.outstanding ≡ true → with_states next last (set channels n v) ≡ driver_after_bytes rounds (switch_numbered n) bytes (with_states phase log channels)
   hear_answered next more last now is settles more_is some none =
       let test : is_answered before.outstanding after.outstanding ≡ true =
       ap (λ (c : ChannelState). is_answered c.outstanding after.outstanding) before_is ∙ ap (λ (c : ChannelState). is_answered old.state.outstanding c.outstanding) after_is

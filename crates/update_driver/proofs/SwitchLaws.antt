@@ -1,7 +1,7 @@
 -- What the two drivers keep of one switch, byte by byte.
-use Rattle.std.proofs.Common.{◌≡◌, ℕ, zero, suc, ◌<◌, ◌≤◌, Bool, true, false, cond, ltb, not, ◌&&◌, List, [], ◌∷◌, ◌++◌, length, map, drop, get_or, refl, sym, ap, ◌∙◌, subst, inl, inr, append-nil, length-append, arith}
+use Rattle.std.proofs.Common.{◌≡◌, ℕ, suc, ◌<◌, ◌≤◌, Bool, true, false, cond, ltb, not, ◌&&◌, List, [], ◌∷◌, ◌++◌, length, drop, get_or, refl, sym, ap, ◌∙◌, subst, inl, inr, append-nil, length-append, arith}
 use Rattle.std.specs.Prelude.{Option, Some, None, is_some, is_none}
-use Rattle.std.specs.List.{concat, list_all}
+use Rattle.std.specs.List.{concat}
 use Rattle.std.proofs.lemmas.Bool.{cond_both, ltb-true, ltb-false}
 use Rattle.std.proofs.lemmas.List.Folds.{concat-append}
 use Rattle.switch_session.specs.Channels.{ChannelState, first_channel, hello, is_open, is_failed, after_byte}
@@ -11,6 +11,8 @@ use Rattle.switch_session.specs.declared.Session.TheVariants.{Waiting, Open, Fai
 use Rattle.switch_session.proofs.ByteLaws.{keeps_barrier}
 use Rattle.switch_session.proofs.RequestLaws.{reads_bytes}
 use Rattle.update_driver.specs.Drivers.{none_outstanding, is_answered}
+use Rattle.update_driver.proofs.ListLaws.{and_parts_of, all_at, none_is}
+use Rattle.update_driver.proofs.SoundLaws.{no_barrier}
 use Rattle.update_driver.proofs.PieceLaws.{parts}
 use Rattle.two_way_driver.specs.PeerStates.{PeerState}
 use Rattle.two_way_driver.specs.Peers.{first_peer, opened_anew, failure_in, heard_of, heard_by, kept_of, peer_after}
@@ -32,19 +34,14 @@ same_waits (p ∷ peers) (c ∷ channels) e at =
     ap (λ (o : Option ℕ). is_none o && all_answered peers) (at 0 (omega arith)) ∙ ap (λ b. is_none c.outstanding && b) (same_waits peers channels (omega arith) (λ i less. at (suc i) (omega arith)))
 
 pub none_at : (channels : List ChannelState) (i : ℕ) → none_outstanding channels ≡ true → (get_or channels i first_channel).outstanding ≡ None
-none_at [] i all = refl
-none_at (c ∷ channels) zero all = from c.outstanding (list_all (λ (d : ChannelState). is_none d.outstanding) channels) all
-  where
-    from : (o : Option ℕ) (b : Bool) → (is_none o && b) ≡ true → o ≡ None
-    from None b e = refl
-    from (Some x) b e = absurd (let f : false ≡ true = e in cc)
-none_at (c ∷ channels) (suc i) all = none_at channels i (rest c.outstanding (list_all (λ (d : ChannelState). is_none d.outstanding) channels) all)
-  where
-    rest : (o : Option ℕ) (b : Bool) → (is_none o && b) ≡ true → b ≡ true
-    rest None b e = e
-    rest (Some x) b e = absurd (let f : false ≡ true = e in cc)
+none_at channels i all = none_is (get_or channels i first_channel).outstanding (all_at no_barrier channels i first_channel all refl)
 
 -- ---- one switch
+
+pub open_session : (x : Session) → is_open x ≡ true → x ≡ Open
+open_session Waiting e = absurd (let f : false ≡ true = e in cc)
+open_session Open e = refl
+open_session (Failed why) e = absurd (let f : false ≡ true = e in cc)
 
 -- what the one driver keeps of a switch is what the other keeps, which knows besides all that was sent
 pub record PeerAs (c : ChannelState) (p : PeerState) (texts : List (List ℕ)) : Type 0 where
@@ -173,7 +170,7 @@ module _ (b : ℕ) (c : ChannelState) (p : PeerState) (texts : List (List ℕ)) 
   -- the session was opened: nothing was outstanding, and nothing is sent
   pub opened_none : (is_open a.session && not (is_open c.session)) ≡ true → (p.asked ≡ None) × (g.more ≡ [])
   opened_none t =
-      let now : a.session ≡ Open = is_open_now a.session (not (is_open c.session)) t in
+      let now : a.session ≡ Open = open_session a.session (and_parts_of (is_open a.session) (not (is_open c.session)) t).0 in
       elim (g.opens now) [
         | inl was ↦ absurd (let e : (is_open a.session && not (is_open c.session)) ≡ false = ap (λ (s : Session). is_open a.session && not (is_open s)) was ∙ and_false (is_open a.session) in let f : true ≡ false = sym t ∙ e in cc)
         | inr w ↦ (
@@ -185,11 +182,6 @@ module _ (b : ℕ) (c : ChannelState) (p : PeerState) (texts : List (List ℕ)) 
         )
       ]
     where
-      is_open_now : (s : Session) (q : Bool) → (is_open s && q) ≡ true → s ≡ Open
-      is_open_now Waiting q e = absurd (let f : false ≡ true = e in cc)
-      is_open_now Open q e = refl
-      is_open_now (Failed why) q e = absurd (let f : false ≡ true = e in cc)
-
       and_false : (q : Bool) → (q && false) ≡ false
       and_false true = refl
       and_false false = refl

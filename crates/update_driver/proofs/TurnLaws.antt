@@ -1,6 +1,6 @@
 -- The messages of a round, to each switch, and the changes of a switch that are logged.
-use Rattle.std.proofs.Common.{◌≡◌, ℕ, zero, suc, ◌+◌, ◌<◌, ◌≤◌, Bool, true, false, cond, eqb, List, [], ◌∷◌, ◌++◌, length, map, take, drop, get_or, refl, sym, ap, ◌∙◌, subst, inl, inr, append_assoc, append-nil, add-one, drop-cons, arith}
-use Rattle.std.specs.Prelude.{filter, flat_map, None}
+use Rattle.std.proofs.Common.{◌≡◌, ℕ, zero, suc, ◌+◌, ◌<◌, ◌≤◌, Bool, true, false, cond, eqb, List, [], ◌∷◌, ◌++◌, length, map, take, drop, get_or, refl, sym, ap, ◌∙◌, inl, inr, append_assoc, append-nil, add-one, drop-cons, arith}
+use Rattle.std.specs.Prelude.{filter, None}
 use Rattle.std.specs.List.{concat}
 use Rattle.std.proofs.lemmas.Bool.{cases_Bool, cases_eq, eq-eqb, ne_eqb}
 use Rattle.std.proofs.lemmas.List.{take_more, map-append}
@@ -13,7 +13,6 @@ use Rattle.update_model.specs.Changes.{switch_of}
 use Rattle.update_model.specs.declared.Change.{Change}
 use Rattle.update_model.specs.declared.Event.{Event}
 use Rattle.update_model.specs.declared.Event.TheVariants as event
-use Rattle.openflow10.specs.Messages.{wire_text}
 use Rattle.round_messages.specs.Requests.{is_changed, switch_numbered, switches_changed, round_requests, sent_from}
 use Rattle.round_messages.specs.ToSwitch.{messages_to}
 use Rattle.round_messages.proofs.Marking.{HasChanged}

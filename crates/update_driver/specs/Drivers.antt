@@ -1,5 +1,5 @@
 -- A driver: what a controller sends to each switch, and the log of events that it makes of what comes.
-use Rattle.std.specs.Prelude.{ℕ, zero, suc, ◌==◌, ◌&&◌, not, Bool, if◌then◌else◌, List, [], ◌∷◌, ◌++◌, length, find, replicate, flat_map, slice_set, slice_index_or, Option, Some, None, is_some, is_none}
+use Rattle.std.specs.Prelude.{ℕ, suc, ◌==◌, ◌&&◌, not, Bool, if◌then◌else◌, List, [], ◌∷◌, ◌++◌, length, find, replicate, flat_map, slice_set, slice_index_or, Option, Some, None, is_some, is_none}
 use Rattle.std.specs.List.{list_all}
 use Rattle.std.specs.Option.{option_map, option_map_or}
 use Rattle.net_base.specs.declared.ids.SwitchId.{SwitchId}

@@ -1,5 +1,5 @@
 -- What a driver keeps beside what contracts see.
-use Rattle.std.specs.Prelude.{◌≡◌, ◌≢◌, ◌<◌, ◌≤◌, Bool, ℕ, zero, suc, List, [], ◌∷◌, ◌++◌, length, map, flat_map, slice_index_or, if◌then◌else◌, Option, Some, None}
+use Rattle.std.specs.Prelude.{◌≡◌, ◌≢◌, ◌<◌, ◌≤◌, Bool, ℕ, zero, suc, List, [], ◌∷◌, ◌++◌, length, map, flat_map, slice_index_or, if◌then◌else◌, Some, None}
 use Rattle.std.specs.List.{concat}
 use Rattle.std.specs.Option.{option_map_or}
 use Rattle.net_base.specs.Switches.{has}
@@ -13,12 +13,12 @@ use Rattle.update_model.specs.declared.Phase.TheVariants.{Settled, Running}
 use Rattle.openflow10.specs.Messages.{wire_text}
 use Rattle.round_messages.specs.Requests.{Sent, first_xid, switch_numbered}
 use Rattle.round_messages.specs.ToSwitch.{messages_to}
-use Rattle.switch_session.specs.Channels.{ChannelState, after_request, after_bytes}
+use Rattle.switch_session.specs.Channels.{ChannelState, after_request}
 use Rattle.switch_session.specs.Seen.{ChannelView}
 use Rattle.turned_rounds.specs.Batches.{next_if}
 use Rattle.turned_rounds.specs.declared.outgoing.Outgoing.{Outgoing}
 use Rattle.two_way_driver.specs.Sending.{texts_for}
-use Rattle.update_driver.specs.Drivers.{DriverState, channel_at, with_channel, settled_if_answered, is_answered, barrier_in, start_fault_in, started_phase}
+use Rattle.update_driver.specs.Drivers.{DriverState, settled_if_answered, barrier_in, start_fault_in, started_phase}
 use Rattle.update_driver.specs.Calls.{DriverView, AreDrivable, IsMadeByCalls}
 use Rattle.update_driver.specs.Laws.{begun_count}
 use Rattle.update_driver.specs.declared.StartFault.{StartFault}
@@ -112,12 +112,3 @@ told_by_turns (t ∷ turns) (c ∷ channels) = told_by_turn t c ∷ told_by_turn
 abbrev pub begun_by_turns : List SwitchStart → DriverState → DriverState
 begun_by_turns turns d =
     settled_if_answered (record d { phase = started_phase d.phase; log = d.log ++ event.Start ∷ []; channels = told_by_turns turns d.channels })
-
--- a driver after bytes come from a switch, whose changes of the running round have these events
-abbrev pub heard_with : ℕ → List Event → List ℕ → DriverState → DriverState
-heard_with s events bytes d =
-    let before = channel_at d (switch_numbered s) in
-    let after = after_bytes bytes before in
-    if is_answered before.outstanding after.outstanding
-    then settled_if_answered (record (with_channel (switch_numbered s) after d) { log = d.log ++ events })
-    else with_channel (switch_numbered s) after d

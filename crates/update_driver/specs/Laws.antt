@@ -1,5 +1,5 @@
 -- What holds of every driver that comes about by calls.
-use Rattle.std.specs.Prelude.{◌≡◌, ◌<◌, ◌⊎◌, ◌&&◌, ℕ, suc, true, List, [], ◌∷◌, ◌++◌, length, map, filter, flat_map, filter_map, nat_lt, ◌==◌, Option, Some, None}
+use Rattle.std.specs.Prelude.{◌≡◌, ◌⊎◌, ◌&&◌, ℕ, suc, true, List, ◌++◌, map, filter, flat_map, filter_map, nat_lt, ◌==◌, Option, Some, None}
 use Rattle.std.specs.List.{AllByRecursion}
 use Rattle.net_base.specs.declared.ids.SwitchId.{SwitchId}
 use Rattle.topology.specs.Networks.{Network}

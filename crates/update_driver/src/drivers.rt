@@ -6,7 +6,7 @@ ghost use Rattle.update_driver.specs.Calls.{AreDrivable, IsMadeByCalls};
 ghost use Rattle.update_driver.specs.Laws.{LogIsRun};
 ghost use Rattle.update_driver.specs.Answers.{with_state, IsStartRefusal};
 
-use crate::starts::{begin, hear, make_channels, next_round, running_round};
+use crate::starts::{begin, hear, make_channels, next_round};
 use crate::turns::{SwitchStarts, turns_of};
 use crate::{Session, StartFault};
 use net_base::{Memory, SwitchId};
@@ -103,11 +103,10 @@ impl<'a> Driver<'a> {
             self.old) }
         ensures err { OnErr result (self.new ≡ self.old) }
     {
-        let round = running_round(self.rounds, self.phase);
         hear(
             s,
             bytes,
-            round,
+            self.rounds,
             &mut self.phase,
             &mut self.log,
             &mut self.channels,

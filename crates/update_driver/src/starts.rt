@@ -9,8 +9,8 @@ ghost use Rattle.update_driver.specs.Laws.{begun_count};
 ghost use Rattle.net_base.specs.Switches.{has, most_switches};
 ghost use Rattle.round_messages.specs.Requests.{switch_numbered};
 ghost use Rattle.switch_session.specs.Channels.{first_channel, is_open};
-ghost use Rattle.update_driver.specs.Drivers.{none_outstanding, settled_if_answered, started_phase, change_events};
-ghost use Rattle.update_driver.specs.Inside.{states_of, with_states, HasRoomFrom, told_by_turn, told_by_turns, begun_by_turns, heard_with, IsPhaseWithin, MayStartWith, IsRefusedWith};
+ghost use Rattle.update_driver.specs.Drivers.{none_outstanding, settled_if_answered, started_phase, change_events, driver_after_bytes};
+ghost use Rattle.update_driver.specs.Inside.{states_of, with_states, HasRoomFrom, told_by_turn, told_by_turns, begun_by_turns, IsPhaseWithin, MayStartWith, IsRefusedWith};
 
 use crate::StartFault;
 use crate::turns::SwitchStart;
@@ -245,7 +245,7 @@ pub(crate) fn begin(
 }
 
 /// The changes of the running round; none where no round is running.
-pub(crate) fn running_round<'a>(rounds: &'a Rounds, phase: Phase) -> &'a [Change]
+fn running_round<'a>(rounds: &'a Rounds, phase: Phase) -> &'a [Change]
     requires { IsPhaseWithin rounds.now phase }
     ensures { result.now ≡ running_round phase rounds.now }
 {
@@ -255,26 +255,28 @@ pub(crate) fn running_round<'a>(rounds: &'a Rounds, phase: Phase) -> &'a [Change
     }
 }
 
-/// Bytes come from a switch, while this round is running. Where the switch answers its barrier request, its changes are logged,
-/// and the round is settled if no barrier is outstanding.
+/// Bytes come from a switch. Where it answers its barrier request, its changes of the running round are logged, and the round
+/// is settled if no barrier is outstanding.
 pub(crate) fn hear(
     switch: SwitchId,
     bytes: &[u8],
-    round: &[Change],
+    rounds: &Rounds,
     phase: &mut Phase,
     log: &mut Vec<Event>,
     channels: &mut Vec<Channel>,
 ) -> Result<(), Memory>
-    requires { switch.0 < vec_len channels.old }
+    requires switch { switch.0 < vec_len channels.old }
+    requires within { IsPhaseWithin rounds.now phase.old }
     ensures ok { OnOk result
         (with_states phase.new log.new.items channels.new.items
-        ≡ heard_with switch.0 (change_events switch 0 round.now) bytes.now
+        ≡ driver_after_bytes rounds.now switch bytes.now
         (with_states phase.old log.old.items channels.old.items)) }
     ensures err { OnErr result
         (with_states phase.new log.new.items channels.new.items
         ≡ with_states phase.old log.old.items channels.old.items) }
 {
     let number = switch.0 as usize;
+    let round = running_round(rounds, *phase);
     let waited = channels[number].outstanding().is_some();
     if waited {
         reserve(log, round.len() + 1)?;

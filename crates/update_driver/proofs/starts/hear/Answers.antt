@@ -1,8 +1,7 @@
 use Rattle.std.proofs.Common.{◌≡◌, ◌<◌, not, true, false, List, ◌++◌, length, set, sym, ap, ◌∙◌, arith}
 use Rattle.std.specs.Prelude.{is_some, is_none}
 use Rattle.update_model.proofs.WorldLaws.{on_err}
-use Rattle.update_model.specs.declared.Event.{Event}
-use Rattle.switch_session.specs.Seen.{ChannelView}
+use Rattle.update_model.specs.declared.Change.{Change}
 use Rattle.update_driver.specs.Drivers.{change_events}
 use Rattle.update_driver.specs.Inside.{with_states}
 use Rattle.update_driver.proofs.StartLaws.{hear_err, hear_not, hear_answered, seen_before, seen_after, not_none, not_waited}
@@ -24,7 +23,6 @@ returns-then-is_none-clause-ok c =
     let n = c.args.switch.0 in
     let v = c.feed.new.self in
     let old = c.index_mut.result.now in
-    let events = change_events c.args.switch 0 c.args.round.now in
     let bytes = c.args.bytes.now in
     let phase = c.args.phase.now in
     let log = c.args.log.now.items in
@@ -35,10 +33,11 @@ returns-then-is_none-clause-ok c =
     ] in
     let at = c.index_mut.ensures.value in
     let state = c.in_ok-feed.ensures.ok in
-    let some = seen_before phase log channels n lt events bytes v old at state c.index.result.now true c.index.ensures (ap is_some (sym c.outstanding.ensures) ∙ sym c.is_some-waited.ensures ∙ c.if-waited-2.true) in
-    let none = seen_after phase log channels n lt events bytes v old at state c.index-then-waited-2.result.now true c.index-then-waited-2.ensures (ap is_none (sym c.outstanding-then-waited-2.ensures) ∙ ap not c.is_none.ensures ∙ ap (λ b. not (not b)) c.if-is_none.true) in
-    hear_answered phase log channels n lt events bytes v old at state c.settle_if_answered.new.phase c.log_changes.new.log.items c.settle_if_answered.new.log.items c.deref.result.now c.deref.ensures.value c.settle_if_answered.ensures
-    (c.log_changes.ensures.items ∙ ap (λ l. l ++ events) same) some none
+    let some = seen_before c.args.rounds.now phase log channels n lt bytes v old at state c.index.result.now true c.index.ensures (ap is_some (sym c.outstanding.ensures) ∙ sym c.is_some-waited.ensures ∙ c.if-waited-2.true) in
+    let none = seen_after c.args.rounds.now phase log channels n lt bytes v old at state c.index-then-waited-2.result.now true c.index-then-waited-2.ensures (ap is_none (sym c.outstanding-then-waited-2.ensures) ∙ ap not c.is_none.ensures ∙ ap (λ b. not (not b)) c.if-is_none.true) in
+    hear_answered c.args.rounds.now phase log channels n lt bytes v old at state c.settle_if_answered.new.phase c.log_changes.new.log.items c.settle_if_answered.new.log.items c.deref.result.now c.deref.ensures.value c.settle_if_answered.ensures
+    (c.log_changes.ensures.items ∙ ap (λ l. l ++ change_events c.args.switch 0 c.running_round-round.result.now) same
+    ∙ ap (λ (r : List Change). log ++ change_events c.args.switch 0 r) c.running_round-round.ensures) some none
 
 pub returns-else-waited-2-clause-ok : goal.returns-else-waited-2-clause-ok
 returns-else-waited-2-clause-ok c =
@@ -46,7 +45,6 @@ returns-else-waited-2-clause-ok c =
     let n = c.args.switch.0 in
     let v = c.feed.new.self in
     let old = c.index_mut.result.now in
-    let events = change_events c.args.switch 0 c.args.round.now in
     let bytes = c.args.bytes.now in
     let phase = c.args.phase.now in
     let log = c.args.log.now.items in
@@ -57,11 +55,11 @@ returns-else-waited-2-clause-ok c =
     ] in
     let at = c.index_mut.ensures.value in
     let state = c.in_ok-feed.ensures.ok in
-    hear_not phase log channels n lt events bytes v old at state c.if-waited.log.items same (elim c.else-waited-2.branch [
+    hear_not c.args.rounds.now phase log channels n lt bytes v old at state c.if-waited.log.items same (elim c.else-waited-2.branch [
       | else-waited-2-via-then-waited-2+else-is_none w ↦
           not_none (is_some old.state.outstanding) (is_none v.state.outstanding)
-          (seen_after phase log channels n lt events bytes v old at state w.index-then-waited-2.result.now false w.index-then-waited-2.ensures (ap is_none (sym w.outstanding-then-waited-2.ensures) ∙ ap not w.is_none.ensures ∙ ap (λ b. not (not b)) w.if-is_none.false))
+          (seen_after c.args.rounds.now phase log channels n lt bytes v old at state w.index-then-waited-2.result.now false w.index-then-waited-2.ensures (ap is_none (sym w.outstanding-then-waited-2.ensures) ∙ ap not w.is_none.ensures ∙ ap (λ b. not (not b)) w.if-is_none.false))
       | else-waited-2-via-else-waited-2 w ↦
           not_waited (is_some old.state.outstanding) (is_none v.state.outstanding)
-          (seen_before phase log channels n lt events bytes v old at state c.index.result.now false c.index.ensures (ap is_some (sym c.outstanding.ensures) ∙ sym c.is_some-waited.ensures ∙ w.if-waited-2.false))
+          (seen_before c.args.rounds.now phase log channels n lt bytes v old at state c.index.result.now false c.index.ensures (ap is_some (sym c.outstanding.ensures) ∙ sym c.is_some-waited.ensures ∙ w.if-waited-2.false))
     ])

@@ -1,7 +1,6 @@
-use Rattle.std.proofs.Common.{List, ◌++◌, cond, eqb, ap, ◌∙◌, arith}
+use Rattle.std.proofs.Common.{◌++◌, cond, eqb, ap, ◌∙◌, arith}
 use Rattle.std.specs.Prelude.{[], ◌∷◌}
 use Rattle.net_base.specs.declared.ids.SwitchId.{SwitchId}
-use Rattle.update_model.specs.declared.Event.{Event}
 use Rattle.update_model.specs.declared.Event.TheVariants as event
 use Rattle.update_driver.proofs.TurnLaws.{log_step}
 use Rattle.update_driver.proofs.starts.log_changes.Goals as goal

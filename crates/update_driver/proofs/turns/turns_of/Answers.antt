@@ -1,4 +1,4 @@
-use Rattle.std.proofs.Common.{◌≡◌, ◌+◌, ◌≤◌, ℕ, List, length, sym, ap, ◌∙◌, subst, arith}
+use Rattle.std.proofs.Common.{◌≡◌, ◌+◌, ℕ, List, length, sym, ap, ◌∙◌, subst, arith}
 use Rattle.topology.specs.Networks.{switch_count}
 use Rattle.round_messages.specs.Requests.{round_requests, sent_from}
 use Rattle.round_messages.proofs.Requests.{round_count}

@@ -1,7 +1,6 @@
 use Rattle.std.proofs.Common.{◌≡◌, length, sym, ap, ◌∙◌, subst, arith}
 use Rattle.std.specs.Prelude.{Some}
 use Rattle.std.proofs.lemmas.Result.{err_from_is_err_and}
-use Rattle.switch_session.specs.Seen.{ChannelView}
 use Rattle.update_driver.specs.Calls.{DriverView}
 use Rattle.update_driver.specs.Drivers.{start_fault, start_fault_in}
 use Rattle.update_driver.specs.Inside.{states_of, with_states, MayStartWith, begun_by_turns}
