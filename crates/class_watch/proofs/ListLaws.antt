@@ -34,9 +34,3 @@ classes_more classes list count next long each is n class at =
 -- what was read of a list
 pub read_at : {A : Type 0} (xs : List A) (n : ℕ) (x : A) → n < length xs → x ≡ get_or xs n x → slice_get xs n ≡ Some x
 read_at xs n x lt is = slice_get-get_or xs n x lt ∙ ap Some (sym is)
-
--- what was read of a list of so many items
-pub read_of : {A : Type 0} (items list : List A) (n count : ℕ) (x : A) → items ≡ list → length list ≡ count → n < count → x ≡ get_or items n x → slice_get list n ≡ Some x
-read_of {A} items list n count x same long lt is =
-    let all = ap (λ (xs : List A). length xs) same in
-    ap (λ (xs : List A). slice_get xs n) (sym same) ∙ read_at items n x (omega arith) is

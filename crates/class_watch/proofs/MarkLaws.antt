@@ -17,7 +17,7 @@ use Rattle.check_reasons.specs.AtomMarks.{is_marked}
 use Rattle.check_reasons.proofs.PositionLaws.{get_set_same, get_set_other}
 use Rattle.class_watch.specs.Classes.{AreClasses}
 use Rattle.class_watch.specs.Walks.{HoldsWalks, WalksStand}
-use Rattle.class_watch.specs.Judges.{JudgedRound, changes_in, HasRoomFor, IsHeld, AreHeld, AreMarkedHeld, AreWalkedBelow, IsUnmet, ArePassedOver, AreMarkedWith, IsOfGroup, AreOfGroup, AreGathered}
+use Rattle.class_watch.specs.Judges.{JudgedRound, changes_in, HasRoomFor, IsHeld, AreHeld, AreWalkedBelow, IsUnmet, ArePassedOver, AreMarkedWith, IsOfGroup, AreOfGroup, AreGathered}
 use Rattle.class_watch.specs.declared.judge.Group.{Group}
 use Rattle.class_watch.proofs.ListLaws.{some_at}
 use Rattle.class_watch.proofs.StandLaws.{untouched_walk}

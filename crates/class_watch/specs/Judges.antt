@@ -15,6 +15,7 @@ use Rattle.class_watch.specs.Classes.{AreClasses}
 use Rattle.class_watch.specs.Walks.{HoldsWalks, meets_any}
 use Rattle.class_watch.specs.declared.judge.Group.{Group}
 use Rattle.class_watch.specs.declared.judge.WatchedRound.{WatchedRound}
+use Rattle.class_watch.specs.declared.rounds.ClassRounds.{ClassRounds}
 
 -- the classes that are judged, and the round of an update, by its number from 0
 pub record JudgedRound : Type 0 where
@@ -49,6 +50,11 @@ abbrev pub AreHeld : JudgedRound → (ℕ → Class → Type 0) → List Class �
 AreHeld at holds classes came good =
     (n : ℕ) (class : Class) (set : ℕ) → slice_get classes n ≡ Some class → slice_get came n ≡ Some set → slice_get good n ≡ Some true
     → IsHeld at holds n class set
+
+-- there is room for the classes, and of each that is marked this is held
+pub record AreKept (at : JudgedRound) (holds : ℕ → Class → Type 0) (rounds : ClassRounds) : Type 0 where
+  pub room : HasRoomFor at.classes rounds.classes.items rounds.came.items rounds.good.items
+  pub held : AreHeld at holds rounds.classes.items rounds.came.items rounds.good.items
 
 -- of each class of the map that is marked this is held
 abbrev pub AreMarkedHeld : ClassList → (ℕ → Class → Type 0) → List Bool → Type 0

@@ -1,5 +1,5 @@
 //! Judges of classes: what one holds of a class in a round, by the mixed walks of the class.
-ghost use Rattle.std.specs.Prelude.{◌≡◌, ℕ, suc, ◌<◌, true, false, IfSome};
+ghost use Rattle.std.specs.Prelude.{◌≡◌, ℕ, suc, true, false, IfSome};
 ghost use Rattle.net_base.specs.Members.{IsIn};
 ghost use Rattle.dest_classes.specs.Numbered.{IsNumbered};
 ghost use Rattle.dest_classes.specs.declared.Class.{Class};

@@ -1,9 +1,8 @@
 //! The classes that no change of a round meets.
-ghost use Rattle.std.specs.Prelude.{◌≡◌, ℕ, ◌<◌, true, false, length, replicate};
+ghost use Rattle.std.specs.Prelude.{◌≡◌, ◌<◌, true, false, length, replicate};
 ghost use Rattle.dest_classes.specs.Numbered.{IsNumbered};
 ghost use Rattle.check_reasons.specs.Touched.{touches};
-ghost use Rattle.class_watch.specs.Classes.{AreClasses};
-ghost use Rattle.class_watch.specs.Judges.{changes_in, IsUnmet, AreUnmet, ArePassedOver, AreMarkedOver};
+ghost use Rattle.class_watch.specs.Judges.{changes_in, HasRoomFor, IsUnmet, AreUnmet, ArePassedOver, AreMarkedOver};
 ghost use Rattle.class_watch.specs.Walks.{meets_any};
 
 use crate::judge::ClassJudge;
@@ -65,10 +64,7 @@ pub(crate) fn mark_unmet<J: ClassJudge>(
 )
     requires ready { J.is_ready judge.now }
     requires changes { changes.now ≡ changes_in (J.judged judge.now) }
-    requires classes { AreClasses (J.judged judge.now).classes classes.now }
-    requires few { length classes.now < 8193 }
-    requires came { length came.now ≡ length classes.now }
-    requires good { length good.old ≡ length classes.now }
+    requires room { HasRoomFor (J.judged judge.now).classes classes.now came.now good.old }
     requires looked { ArePassedOver (J.judged judge.now) (J.stands judge.now) classes.now
         looked.now }
     ensures count { length good.new ≡ length good.old }

@@ -1,24 +1,19 @@
 -- Classes that are walked together: each has its certificate where all that was walked is safe.
-use Rattle.std.proofs.Common.{◌≡◌, ◌≢◌, ℕ, zero, suc, ◌<◌, Bool, true, List, [], ◌∷◌, ◌++◌, length, set, Option, Some, None, refl, sym, ap, ◌∙◌, subst, inl, inr, arith}
-use Rattle.std.specs.Prelude.{slice_get, IfSome}
+use Rattle.std.proofs.Common.{◌≡◌, ℕ, suc, ◌<◌, List, [], ◌∷◌, length, Some, refl, sym, ap, ◌∙◌, subst, inl, inr, arith}
+use Rattle.std.specs.Prelude.{slice_get}
 use Rattle.std.specs.List.{AllByRecursion, AllZip}
-use Rattle.std.proofs.lemmas.Bool.{cases_lt, cases_eq}
+use Rattle.std.proofs.lemmas.Bool.{cases_lt}
 use Rattle.std.proofs.lemmas.Option.{same_Some}
 use Rattle.net_base.specs.Members.{IsIn}
 use Rattle.net_base.specs.declared.ids.SwitchId.{SwitchId}
-use Rattle.net_base.proofs.MemberLaws.{each_at, in_append_left, in_append_right, in_append_cases}
-use Rattle.net_base.proofs.ItemLaws.{in_from_get}
-use Rattle.net_base.specs.Places.{stop_of}
-use Rattle.net_base.specs.declared.ids.Vlan.{Vlan}
-use Rattle.topology.specs.Networks.{IsUsed}
-use Rattle.update_model.specs.Mixtures.{Rollout}
+use Rattle.net_base.proofs.MemberLaws.{each_at}
 use Rattle.acyclic_numbering.specs.Heights.{number_of as number_at}
 use Rattle.waypoint_evidence.specs.Befores.{IsGuard}
 use Rattle.dest_classes.specs.Classes.{IsClass, class_count}
 use Rattle.demands.specs.Duties.{ClassDuties}
 use Rattle.dest_classes.specs.declared.Class.{Class}
 use Rattle.dest_classes.specs.declared.NumberedClass.{NumberedClass}
-use Rattle.dest_classes.proofs.MapLaws.{class_is, number_fits}
+use Rattle.dest_classes.proofs.MapLaws.{number_fits}
 use Rattle.certificates.specs.Steps.{IsMixedStep, MayLeave}
 use Rattle.certificates.specs.Ordered.{Position, positions, OrderedCertificate, IsPickInForce}
 use Rattle.certificates.specs.Valid.{IsValidOrdered, IsValidPick}
@@ -29,9 +24,6 @@ use Rattle.certificates.specs.declared.OrderedEvidence.{OrderedEvidence}
 use Rattle.certificates.specs.declared.Shared.{Shared}
 use Rattle.check_reasons.specs.Reasons.{class_duties}
 use Rattle.mixed_walks.specs.Walks.{WalkState, Covers, AreTogether}
-use Rattle.class_watch.specs.Classes.{AreClasses}
-use Rattle.class_watch.specs.Walks.{HoldsWalks}
-use Rattle.check_reasons.proofs.PositionLaws.{get_set_other}
 use Rattle.ordered_check.specs.Together.{IsOfUse, AreSafe}
 use Rattle.class_watch.specs.declared.judge.Group.{Group}
 

@@ -4,7 +4,6 @@ use Rattle.dest_classes.specs.Classes.{ClassList, class_count, atom_count}
 use Rattle.update_model.specs.declared.Change.{Change}
 use Rattle.round_mix.specs.Prepared.{MixedState}
 use Rattle.certificates.specs.Ordered.{IsPickInForce}
-use Rattle.certificates.specs.Updates.{Task}
 use Rattle.certificates.specs.Certified.{classes_for}
 use Rattle.certificates.specs.declared.OrderedEvidence.{OrderedEvidence}
 use Rattle.certificates.specs.declared.OrderedPick.{OrderedPick}

@@ -2,7 +2,6 @@
 ghost use Rattle.std.specs.Prelude.{◌≡◌, ◌<◌, ◌≤◌, length, slice_get, Some};
 ghost use Rattle.topology.specs.Networks.{switch_count, IsNetwork};
 ghost use Rattle.path_walk.specs.UserConfigs.{IsUserConfig};
-ghost use Rattle.dest_classes.specs.Classes.{class_count};
 ghost use Rattle.certificates.specs.Valid.{IsValidOrdered};
 ghost use Rattle.certificates.specs.Certified.{classes_for};
 ghost use Rattle.net_base.specs.Switches.{most_switches};
@@ -64,24 +63,6 @@ impl<'a> OrderedCase<'a> {
         ensures { result.now ≡ classes_for self.now.task }
     {
         self.classes
-    }
-
-    /// How many classes there are.
-    pub(crate) fn class_count(&self) -> u32
-        ensures { result ≡ class_count (classes_for self.now.task) }
-    {
-        self.classes.count()
-    }
-
-    /// How many classes each host port has: one for each VLAN and atom. Classes whose numbers differ by a multiple of it have the
-    /// same VLAN and atom. Only the speed rests on it: it says which classes are tried together.
-    pub(crate) fn classes_of_host(&self) -> u32 {
-        let case = self.case;
-        let hosts = u32::try_from(case.net.hosts().len()).unwrap_or(0);
-        if hosts == 0 {
-            return 0;
-        }
-        self.classes.count() / hosts
     }
 
     /// The duties of the classes.

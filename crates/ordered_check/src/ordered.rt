@@ -1,6 +1,6 @@
 //! The classes of the rounds of an ordered plan.
 ghost use Rattle.certificates.specs.Updates.{rollout};
-ghost use Rattle.std.specs.Prelude.{◌≡◌, ◌<◌, suc, length, IfOk, IfSome, IfNone};
+ghost use Rattle.std.specs.Prelude.{◌<◌, suc, length, IfOk, IfSome, IfNone};
 ghost use Rattle.dest_classes.specs.Classes.{class_count};
 ghost use Rattle.certificates.specs.Certified.{classes_for};
 ghost use Rattle.certificates.specs.declared.Evidence.TheVariants.{Ordered};

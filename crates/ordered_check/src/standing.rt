@@ -1,5 +1,5 @@
 //! What is known of the classes before those of a round are judged: the picks in force, and which atoms the round touches.
-ghost use Rattle.std.specs.Prelude.{◌≡◌, ◌<◌, ◌≤◌, suc, length, IfOk};
+ghost use Rattle.std.specs.Prelude.{◌≡◌, ◌<◌, suc, length, IfOk};
 ghost use Rattle.net_base.specs.Members.{IsIn};
 ghost use Rattle.dest_classes.specs.Classes.{class_count, atom_count};
 ghost use Rattle.update_model.specs.Changes.{round_after};

@@ -126,6 +126,10 @@ pub record IsNewlySafe (to : Target) (u : Rollout) (e : OrderedEvidence) (k : �
   pub fails : ¬ IsCertifiedClass to u e k f.class class
   pub safe : IsSafeEvidence u k class (duties_in to class) f.evidence
 
+-- new evidence was found for a class before, and each switch that the mixed walks of each class come to is known
+abbrev pub WasFound : Target → Rollout → OrderedEvidence → ℕ → List ℕ → FoundEvidence → Type 0
+WasFound to u e k came f = IsNewlySafe to u e k f × HoldRound to u k came
+
 -- each class that round k meets is safe in it, and so is each other one if there is a round before;
 -- and each switch that the mixed walks of each class come to is known
 pub record AreMetSafe (to : Target) (u : Rollout) (e : OrderedEvidence) (k : ℕ) (found : List FoundEvidence) (came : List ℕ) : Type 0 where

@@ -15,8 +15,8 @@ ghost use Rattle.round_judge.specs.declared.judging.FoundEvidence.{FoundEvidence
 ghost use Rattle.check_reasons.specs.AtomMarks.{AreTouched};
 ghost use Rattle.class_watch.specs.Walks.{HoldsWalks, HoldsTables};
 ghost use Rattle.round_judge.specs.Evidence.{IsCertifiedClass};
-ghost use Rattle.round_judge.specs.Judged.{IsReadyToJudge, IsNextRound, IsJudged, IsJudgedIfMet, IsNewlySafe, IsNoted, AreJudged, AreFirstJudged, AreMetJudged, verdict_of};
-ghost use Rattle.round_judge.specs.Visits.{marks_at, HoldTables, HoldRound, HoldAfter};
+ghost use Rattle.round_judge.specs.Judged.{IsReadyToJudge, IsNextRound, IsJudged, IsJudgedIfMet, WasFound, IsNoted, AreJudged, AreFirstJudged, AreMetJudged, verdict_of};
+ghost use Rattle.round_judge.specs.Visits.{marks_at, HoldTables, HoldAfter};
 
 use crate::goal::Goal;
 use crate::unsafe_class::UnsafeClass;
@@ -348,11 +348,13 @@ fn judge_next(
     ensures judged { IfOk result (λ judged. (u : Rollout) (k : ℕ) (class : Class)
         → IsRoundOf goal.now.net tried.now.mixes.now u k → IsClass goal.now.classes number class
         → IsNextRound goal.now u tried.now.store.now.evidence k tried.now.changes.now
-        → AllByRecursion (IsNewlySafe goal.now u tried.now.store.now.evidence k) before.old.items
+        → AllByRecursion (WasFound goal.now u tried.now.store.now.evidence k watch.old.came.items)
+        before.old.items
         → IsJudged goal.now u tried.now.store.now.evidence k number class judged) }
     ensures walks { OnOk result ((u : Rollout) (k : ℕ) (class : Class)
         → IsRoundOf goal.now.net tried.now.mixes.now u k → IsClass goal.now.classes number class
-        → HoldsWalks u k class (marks_at watch.old.came.items number)
+        → AllByRecursion (WasFound goal.now u tried.now.store.now.evidence k watch.old.came.items)
+        before.old.items
         → HoldsWalks u k class (marks_at watch.new.came.items number)) }
     ensures before { (f : FoundOf) → IsIn f before.new.items → IsIn f before.old.items }
     ensures count { length watch.new.came.items ≡ length watch.old.came.items }
@@ -384,9 +386,10 @@ fn judge_each(
     ensures { IfOk result (λ failing. (u : Rollout) (k : ℕ)
         → IsRoundOf goal.now.net tried.now.mixes.now u k
         → IsNextRound goal.now u tried.now.store.now.evidence k tried.now.changes.now
-        → AllByRecursion (IsNewlySafe goal.now u tried.now.store.now.evidence k) before.old.items
-        → HoldRound goal.now u k watch.old.came.items
-        → AreJudged goal.now u tried.now.store.now.evidence k (verdict_of found.new failing)
+        → HoldTables goal.now (tables_before u k) watch.old.came.items
+        → AllByRecursion (WasFound goal.now u tried.now.store.now.evidence k watch.old.came.items)
+        before.old.items
+        → AreFirstJudged goal.now u tried.now.store.now.evidence k (verdict_of found.new failing)
         × HoldAfter goal.now u k (verdict_of found.new failing) watch.new.came.items) }
 {
     for number in 0..goal.count() {
@@ -412,9 +415,10 @@ fn judge_rest(
     ensures { IfOk result (λ verdict. (u : Rollout) (k : ℕ)
         → IsRoundOf goal.now.net tried.now.mixes.now u k
         → IsNextRound goal.now u tried.now.store.now.evidence k tried.now.changes.now
-        → AllByRecursion (IsNewlySafe goal.now u tried.now.store.now.evidence k) met.items
-        → HoldRound goal.now u k watch.old.came.items
-        → AreJudged goal.now u tried.now.store.now.evidence k verdict
+        → HoldTables goal.now (tables_before u k) watch.old.came.items
+        → AllByRecursion (WasFound goal.now u tried.now.store.now.evidence k watch.old.came.items)
+        met.items
+        → AreFirstJudged goal.now u tried.now.store.now.evidence k verdict
         × HoldAfter goal.now u k verdict watch.new.came.items) }
 {
     let mut before = met;
@@ -467,59 +471,6 @@ pub fn judge_all(
     }
 }
 
-/// Finds evidence for all classes, class by class. The result is the first that is not safe by any evidence.
-fn judge_every(
-    goal: &Goal,
-    watch: &mut ClassWatch,
-    tried: &TriedRound,
-    last: &mut LastSets,
-    found: &mut Vec<FoundEvidence>,
-) -> Result<Option<UnsafeClass>, Memory>
-    requires ready { IsReadyToJudge goal.now tried.now.mixes.now tried.now.store.now }
-    requires came { length watch.old.came.items ≡ class_count goal.now.classes }
-    requires last { HoldsLastOf goal.now last.old }
-    requires none { found.old.items ≡ [] }
-    ensures { IfOk result (λ failing. (u : Rollout) (k : ℕ)
-        → IsRoundOf goal.now.net tried.now.mixes.now u k
-        → IsNextRound goal.now u tried.now.store.now.evidence k tried.now.changes.now
-        → HoldTables goal.now (tables_before u k) watch.old.came.items
-        → AreFirstJudged goal.now u tried.now.store.now.evidence k (verdict_of found.new failing)
-        × HoldAfter goal.now u k (verdict_of found.new failing) watch.new.came.items) }
-{
-    let alloc = *found.allocator();
-    for number in 0..goal.count() {
-        let numbered = goal.numbered(number);
-        let judged = judge_class(alloc, goal, watch, tried, last, numbered)?;
-        if let Some(failing) = note(number, judged, found)? {
-            return Ok(Some(failing));
-        }
-    }
-    Ok(None)
-}
-
-/// What is found for all classes, class by class, in a round that no pick is for yet.
-fn judge_anew(
-    alloc: Global,
-    goal: &Goal,
-    watch: &mut ClassWatch,
-    tried: &TriedRound,
-) -> Result<RoundVerdict, Memory>
-    requires ready { IsReadyToJudge goal.now tried.now.mixes.now tried.now.store.now }
-    requires came { length watch.old.came.items ≡ class_count goal.now.classes }
-    ensures { IfOk result (λ verdict. (u : Rollout) (k : ℕ)
-        → IsRoundOf goal.now.net tried.now.mixes.now u k
-        → IsNextRound goal.now u tried.now.store.now.evidence k tried.now.changes.now
-        → HoldTables goal.now (tables_before u k) watch.old.came.items
-        → AreFirstJudged goal.now u tried.now.store.now.evidence k verdict
-        × HoldAfter goal.now u k verdict watch.new.came.items) }
-{
-    let mut last = LastSets::none();
-    let mut found = Vec::new(alloc);
-    let failing = judge_every(goal, watch, tried, &mut last, &mut found);
-    drop(last);
-    verdict_of(found, failing)
-}
-
 /// What is found for all classes while the round is carried out, in the order of their numbers: the class that is not safe by
 /// any evidence is the first one. Looked at are the atoms that the changes touch. It takes a walk for each class that a change
 /// meets, up to the first that is not safe, and where no class has a pick yet one for each class.
@@ -544,5 +495,5 @@ pub fn judge_in_order(
     if has_picks(tried.store) {
         return judge_met(alloc, goal, watch, tried, looked);
     }
-    judge_anew(alloc, goal, watch, tried)
+    judge_rest(alloc, goal, watch, tried, Vec::new(alloc))
 }

@@ -8,7 +8,6 @@ use Rattle.net_base.proofs.ItemLaws.{in_at}
 use Rattle.dest_classes.specs.declared.NumberedClass.{NumberedClass}
 use Rattle.demands.specs.Duties.{DemandView}
 use Rattle.check_reasons.proofs.PositionLaws.{get_set_other}
-use Rattle.class_watch.proofs.ListLaws.{some_at}
 use Rattle.update_model.specs.Mixtures.{Rollout}
 use Rattle.round_survey.specs.Surveys.{KeepFirst, IsSeen, KeepsDuties}
 use Rattle.round_survey.specs.declared.seen.SurveyedWalks.{SurveyedWalks}

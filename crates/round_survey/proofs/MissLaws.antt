@@ -7,9 +7,7 @@ use Rattle.dest_classes.specs.Classes.{ClassList, class_count, atom_count}
 use Rattle.dest_classes.specs.declared.Class.{Class}
 use Rattle.dest_classes.proofs.MapLaws.{number_fits, some_atom}
 use Rattle.update_model.specs.Changes.{round_after}
-use Rattle.update_model.specs.declared.Change.{Change}
 use Rattle.check_reasons.specs.AtomMarks.{is_marked, AreTouched}
-use Rattle.check_reasons.specs.Touched.{touches}
 use Rattle.class_watch.specs.Classes.{AreClasses}
 use Rattle.round_survey.specs.Rounds.{PassesOver}
 use Rattle.breaking_walks.specs.declared.round.PreparedRound.{PreparedRound}

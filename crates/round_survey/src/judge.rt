@@ -1,5 +1,5 @@
 //! The judge of a survey: which classes can't break their duties in a round, by what their walks show.
-ghost use Rattle.std.specs.Prelude.{ℕ, ◌+◌, ◌<◌, ◌≤◌, length};
+ghost use Rattle.std.specs.Prelude.{◌+◌, ◌<◌, ◌≤◌, length};
 ghost use Rattle.net_base.specs.Members.{IsIn};
 ghost use Rattle.dest_classes.specs.Numbered.{IsNumbered};
 ghost use Rattle.dest_classes.specs.declared.NumberedClass.{NumberedClass};

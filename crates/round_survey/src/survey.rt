@@ -1,5 +1,5 @@
 //! The classes of an update, surveyed round by round.
-ghost use Rattle.std.specs.Prelude.{◌≡◌, ◌<◌, suc, OnOk};
+ghost use Rattle.std.specs.Prelude.{◌≡◌, suc, OnOk};
 ghost use Rattle.class_watch.specs.Walks.{WalksStand};
 ghost use Rattle.round_survey.specs.Rounds.{round_rollout, IsPreparedRound};
 ghost use Rattle.round_survey.specs.Surveys.{AreGood, HasSurveyRoom, KeptBefore};

@@ -1,6 +1,5 @@
-use Rattle.std.proofs.Common.{List, get_or, sym, subst}
+use Rattle.std.proofs.Common.{get_or, sym, subst}
 use Rattle.std.proofs.lemmas.Option.{slice_get-get_or}
-use Rattle.dest_classes.specs.declared.NumberedClass.{NumberedClass}
 use Rattle.class_watch.specs.Judges.{AreOfGroup}
 use Rattle.class_watch.proofs.ListLaws.{no_class}
 use Rattle.class_watch.proofs.MarkLaws.{gathered_more}

@@ -1,4 +1,4 @@
-use Rattle.std.proofs.Common.{◌≡◌, ℕ, ◌%◌, Bool, true, false, List, Some, length, get_or, set, refl, sym, ◌∙◌, subst, ap, inl, inr, arith}
+use Rattle.std.proofs.Common.{◌≡◌, ℕ, ◌%◌, true, length, get_or, set, refl, sym, ◌∙◌, subst, ap, inl, inr, arith}
 use Rattle.std.specs.Prelude.{slice_get}
 use Rattle.std.proofs.lemmas.Bool.{cases_eq, cases_lt, false≢true}
 use Rattle.std.proofs.lemmas.List.{length-set}
@@ -27,7 +27,7 @@ pub is_unmet-requires-clause-class : goal.is_unmet-requires-clause-class
 is_unmet-requires-clause-class g c =
     let classes = c.args.classes.now in
     let i = c.marking.number in
-    c.requires.classes.each i (get_or classes i no_class.class) (slice_get-get_or classes i no_class.class (omega arith))
+    c.requires.room.classes_are.each i (get_or classes i no_class.class) (slice_get-get_or classes i no_class.class (omega arith))
 
 pub marking-preserved : goal.marking-preserved
 marking-preserved g c =

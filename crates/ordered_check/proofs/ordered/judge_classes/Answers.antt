@@ -1,5 +1,5 @@
 use Rattle.certificates.specs.Updates.{rollout}
-use Rattle.std.proofs.Common.{◌≡◌, ℕ, ◌<◌, Bool, List, sym, ◌∙◌, ap, subst, arith}
+use Rattle.std.proofs.Common.{sym, ◌∙◌, ap, subst, arith}
 use Rattle.topology.specs.Networks.{Network}
 use Rattle.certificates.specs.Certified.{classes_for}
 use Rattle.check_reasons.specs.Cases.{CaseView}

@@ -1,14 +1,15 @@
 use Rattle.std.proofs.Common.{ℕ, ◌<◌, arith}
+use Rattle.std.specs.List.{AllByRecursion}
 use Rattle.std.proofs.lemmas.Result.{IfOk-weaker}
 use Rattle.update_model.specs.Mixtures.{Rollout, tables_before}
 use Rattle.mixed_walks.specs.Walks.{IsRoundOf}
 use Rattle.certificates.specs.declared.OrderedEvidence.{OrderedEvidence}
 use Rattle.update_model.specs.declared.Change.{Change}
-use Rattle.std.proofs.Common.{◌≡◌, List}
+use Rattle.std.proofs.Common.{◌≡◌, List, sym, subst}
 use Rattle.table_difference.specs.Targets.{Target}
 use Rattle.round_judge.specs.declared.judging.RoundVerdict.{RoundVerdict}
 use Rattle.round_judge.specs.declared.judging.RoundVerdict.TheVariants.{Safe, Unsafe}
-use Rattle.round_judge.specs.Judged.{IsNextRound, AreMetJudged, AreFirstJudged}
+use Rattle.round_judge.specs.Judged.{IsNextRound, WasFound, AreMetJudged, AreFirstJudged}
 use Rattle.round_judge.specs.Visits.{HoldTables, HoldAfter}
 use Rattle.round_judge.proofs.JudgingLaws.{picks_later}
 use Rattle.round_judge.proofs.VisitLaws.{round_after_it}
@@ -33,3 +34,16 @@ returns-then-has_picks c =
     → AreFirstJudged to u e k v × HoldAfter to u k v came)
     (λ v all u k round next held.
     met_first to u e k changes round.net_is next (picks_later e.picks k (c.has_picks.ensures c.if-has_picks.true) next.picks) v came (all u k round next held)) c.judge_met.ensures.judged
+
+pub returns : goal.returns
+returns c =
+    let to = c.args.goal.now in
+    let tried = c.args.tried.now in
+    let e = tried.store.now.evidence in
+    let was = c.args.watch.now.came.items in
+    let came = c.judge_rest.new.watch.came.items in
+    IfOk-weaker c.judge_rest.result
+    (λ (v : RoundVerdict). (u : Rollout) (k : ℕ) → IsRoundOf to.net tried.mixes.now u k → IsNextRound to u e k tried.changes.now → HoldTables to (tables_before u k) was → AllByRecursion (WasFound to u e k was) c.new.result.items
+    → AreFirstJudged to u e k v × HoldAfter to u k v came)
+    (λ (v : RoundVerdict). (u : Rollout) (k : ℕ) → IsRoundOf to.net tried.mixes.now u k → IsNextRound to u e k tried.changes.now → HoldTables to (tables_before u k) was → AreFirstJudged to u e k v × HoldAfter to u k v came)
+    (λ v all u k round next held. all u k round next held (subst (AllByRecursion (WasFound to u e k was)) (sym c.new.ensures.items) tt)) c.judge_rest.ensures

@@ -8,7 +8,7 @@ use Rattle.update_model.specs.Mixtures.{Rollout}
 use Rattle.mixed_walks.specs.Walks.{IsRoundOf}
 use Rattle.round_judge.specs.declared.judging.FoundEvidence.{FoundEvidence}
 use Rattle.round_judge.specs.declared.judging.ClassVerdict.{ClassVerdict}
-use Rattle.round_judge.specs.Judged.{IsNextRound, IsJudged, IsNewlySafe}
+use Rattle.round_judge.specs.Judged.{IsNextRound, IsJudged, WasFound}
 use Rattle.class_watch.specs.Walks.{HoldsWalks}
 use Rattle.round_judge.specs.Visits.{marks_at}
 use Rattle.round_judge.proofs.JudgingLaws.{new_here, numbered_class, judged_there}
@@ -19,7 +19,12 @@ returns-in-Some-clause-judged c = λ u k class round is next before.
     let to = c.args.goal.now in
     let e = c.args.tried.now.store.now.evidence in
     let found : FoundEvidence = record { class = c.args.number; evidence = c.in-Some.evidence } in
-    new_here to u e k c.args.number found refl (each_at (IsNewlySafe to u e k) c.args.before.now.items found before c.in-Some.ensures.some) class is
+    new_here to u e k c.args.number found refl (each_at (WasFound to u e k c.args.watch.now.came.items) c.args.before.now.items found before c.in-Some.ensures.some).0 class is
+
+pub returns-in-Some-clause-walks : goal.returns-in-Some-clause-walks
+returns-in-Some-clause-walks c = λ u k class round is before.
+    let found : FoundEvidence = record { class = c.args.number; evidence = c.in-Some.evidence } in
+    (each_at (WasFound c.args.goal.now u c.args.tried.now.store.now.evidence k c.args.watch.now.came.items) c.args.before.now.items found before c.in-Some.ensures.some).1.each c.args.number class is
 
 pub returns-clause-judged : goal.returns-clause-judged
 returns-clause-judged c =
@@ -32,7 +37,7 @@ returns-clause-judged c =
     IfOk-weaker c.judge_class.result
     (λ (j : ClassVerdict). (u : Rollout) (k : ℕ) → IsRoundOf to.net mixes u k → IsNextRound to u e k changes → IsJudged to u e k numbered.number numbered.class j)
     (λ (j : ClassVerdict). (u : Rollout) (k : ℕ) (class : Class) → IsRoundOf to.net mixes u k → IsClass to.classes number class → IsNextRound to u e k changes
-    → AllByRecursion (IsNewlySafe to u e k) c.args.before.now.items → IsJudged to u e k number class j)
+    → AllByRecursion (WasFound to u e k c.args.watch.now.came.items) c.args.before.now.items → IsJudged to u e k number class j)
     (λ j all u k class round is next before.
     let same = numbered_class to.classes number numbered c.numbered.ensures.number c.numbered.ensures.class class is in
     judged_there to u e k numbered number class c.numbered.ensures.number same j (all u k round next)) c.judge_class.ensures.judged

@@ -1,4 +1,4 @@
-use Rattle.std.proofs.Common.{List, sym, subst, arith}
+use Rattle.std.proofs.Common.{List, sym, subst}
 use Rattle.net_base.specs.Members.{IsIn}
 use Rattle.net_base.proofs.ItemLaws.{in_from_get}
 use Rattle.dest_classes.specs.declared.NumberedClass.{NumberedClass}

@@ -1,4 +1,4 @@
-use Rattle.std.proofs.Common.{◌≡◌, length, sym, subst, arith}
+use Rattle.std.proofs.Common.{◌≡◌, length, subst, arith}
 use Rattle.round_survey.specs.Surveys.{KeepFirst}
 use Rattle.round_survey.proofs.judge.keep_good.Goals as goal
 

@@ -1,8 +1,8 @@
-use Rattle.std.proofs.Common.{◌≡◌, ◌<◌, ◌∷◌, [], true, List, length, replicate, sym, ◌∙◌, ap, subst, arith}
+use Rattle.std.proofs.Common.{◌≡◌, ◌∷◌, [], List, sym, ◌∙◌, subst, arith}
 use Rattle.update_model.specs.Changes.{round_after}
 use Rattle.update_model.specs.declared.Change.{Change}
 use Rattle.check_reasons.specs.AtomMarks.{AreTouched}
-use Rattle.round_survey.proofs.MissLaws.{passes_untouched, passes_none, one_item}
+use Rattle.round_survey.proofs.MissLaws.{passes_untouched, one_item}
 use Rattle.round_survey.proofs.looking.look_at_changed.Goals as goal
 
 pub returns : goal.returns

@@ -1,12 +1,10 @@
-use Rattle.std.proofs.Common.{◌≡◌, ◌<◌, ℕ, [], List, get_or, sym, ◌∙◌, subst, ap}
+use Rattle.std.proofs.Common.{◌<◌, ℕ, get_or, sym, subst}
 use Rattle.std.proofs.lemmas.Result.{IfOk-weaker}
-use Rattle.net_base.specs.Members.{IsIn}
 use Rattle.net_base.specs.Places.{stop_of}
 use Rattle.topology.specs.Networks.{switch_count}
 use Rattle.mixed_walks.proofs.PlaceLaws.{port_within}
 use Rattle.net_base.proofs.ItemLaws.{in_at}
 use Rattle.net_base.specs.declared.ids.Place.{Place}
-use Rattle.dest_classes.specs.declared.NumberedClass.{NumberedClass}
 use Rattle.breaking_walks.specs.Surveys.{NeverRepeats}
 use Rattle.breaking_walks.proofs.StepLaws.{notes_none}
 use Rattle.round_survey.specs.Rounds.{round_rollout}

@@ -1,4 +1,4 @@
-use Rattle.std.proofs.Common.{◌+◌, ◌-◌, ◌<◌, ◌≤◌, arith}
+use Rattle.std.proofs.Common.{◌+◌, ◌-◌, ◌<◌, arith}
 use Rattle.breaking_walks.proofs.StepLaws.{notes_fewer}
 use Rattle.round_survey.specs.Rounds.{round_rollout}
 use Rattle.round_survey.proofs.stepping.walk_on.Goals as goal

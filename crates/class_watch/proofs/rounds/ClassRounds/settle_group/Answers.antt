@@ -1,4 +1,4 @@
-use Rattle.std.proofs.Common.{◌≡◌, ℕ, List, length, refl, sym, ◌∙◌, subst, ap, arith}
+use Rattle.std.proofs.Common.{ℕ, List, length, sym, ◌∙◌, subst, ap, arith}
 use Rattle.net_base.specs.Members.{IsIn}
 use Rattle.dest_classes.specs.Classes.{IsClass}
 use Rattle.dest_classes.specs.declared.Class.{Class}
@@ -11,12 +11,12 @@ use Rattle.class_watch.proofs.MarkLaws.{held_more, still_marked, host_used}
 use Rattle.class_watch.proofs.rounds.ClassRounds.settle_group.Goals as goal
 
 pub gather-requires-clause-classes : goal.gather-requires-clause-classes
-gather-requires-clause-classes g c = subst (AreClasses (g.J.ClassJudge.judged c.args.judge.now).classes) (sym c.deref.ensures.value) c.requires.room.classes_are
+gather-requires-clause-classes g c = subst (AreClasses (g.J.ClassJudge.judged c.args.judge.now).classes) (sym c.deref.ensures.value) c.requires.kept.room.classes_are
 
 pub gather-requires-clause-few : goal.gather-requires-clause-few
 gather-requires-clause-few g c =
-    let count = c.requires.room.classes_are.count in
-    let few = c.requires.room.few in
+    let count = c.requires.kept.room.classes_are.count in
+    let few = c.requires.kept.room.few in
     let same = ap (λ (cs : List Class). length cs) c.deref.ensures.value in
     omega arith
 
@@ -50,7 +50,7 @@ mark_members-requires-clause-good g c m i =
     let at = g.J.ClassJudge.judged c.args.judge.now in
     let member = c.in-Some.ensures m (c.together.ensures.left m (subst (λ (xs : List NumberedClass). IsIn m xs) c.deref-4.ensures.value i)) in
     let within = number_fits at.classes m.number m.class member.is in
-    let count = c.requires.room.marks in
+    let count = c.requires.kept.room.marks in
     omega arith
 
 pub mark_members-requires-clause-came : goal.mark_members-requires-clause-came
@@ -58,7 +58,7 @@ mark_members-requires-clause-came g c m i =
     let at = g.J.ClassJudge.judged c.args.judge.now in
     let member = c.in-Some.ensures m (c.together.ensures.left m (subst (λ (xs : List NumberedClass). IsIn m xs) c.deref-4.ensures.value i)) in
     let within = number_fits at.classes m.number m.class member.is in
-    let count = c.requires.room.sets in
+    let count = c.requires.kept.room.sets in
     omega arith
 
 pub returns : goal.returns
@@ -77,17 +77,18 @@ returns g c =
     (subst (λ (a : ℕ). AreTogether at.update at.number a c.in-Some.group.vlan c.walk_members.new.walk) (sym (c.in-Some.ensures m (was m i)).address) (c.walk_members.ensures.together at.update at.number c.requires.round.is))
     (c.walk_members.ensures.entries m (subst (λ (xs : List NumberedClass). IsIn m xs) (sym c.deref-3.ensures.value) (was m i))) in
     record {
-      room = record {
-        classes_are = c.requires.room.classes_are;
-        sets = c.mark_members.ensures.came ∙ c.requires.room.sets;
-        marks = c.mark_members.ensures.good ∙ c.requires.room.marks;
-        few = c.requires.room.few;
+      kept = record {
+        room = record {
+          classes_are = c.requires.kept.room.classes_are;
+          sets = c.mark_members.ensures.came ∙ c.requires.kept.room.sets;
+          marks = c.mark_members.ensures.good ∙ c.requires.kept.room.marks;
+          few = c.requires.kept.room.few;
+        };
+        held =
+            held_more at holds members set old.classes.items old.came.items old.good.items c.mark_members.new.came.items c.mark_members.new.good.items each c.requires.kept.room.classes_are c.requires.kept.held is
+            (λ m i. c.together.ensures.held m (left m i))
+            (λ m i. walks m i);
       };
-      classes = refl;
-      held =
-          held_more at holds members set old.classes.items old.came.items old.good.items c.mark_members.new.came.items c.mark_members.new.good.items each c.requires.room.classes_are c.requires.held is
-          (λ m i. c.together.ensures.held m (left m i))
-          (λ m i. walks m i);
       marked = still_marked at holds members set old.classes.items old.came.items old.good.items c.mark_members.new.came.items c.mark_members.new.good.items each;
       told = c.together.ensures.told;
     }
