@@ -1,10 +1,9 @@
 //! What is said of the rounds of a plan: too many classes, the text with evidence that certifies them, or why none does.
-ghost use Rattle.std.specs.Prelude.{◌≡◌, ◌≤◌, IfOk, IfErr, OnOk, false};
+ghost use Rattle.std.specs.Prelude.{◌≡◌, IfOk, IfErr, OnOk, false};
 ghost use Rattle.flow_rules.specs.Tables.{rules_of_all};
 ghost use Rattle.path_walk.specs.UserConfigs.{IsUserConfig};
-ghost use Rattle.dest_classes.specs.Classes.{class_count};
 ghost use Rattle.certificates.specs.Valid.{IsValidPlan};
-ghost use Rattle.certificates.specs.Certified.{IsCertified, classes_for, is_two_phase};
+ghost use Rattle.certificates.specs.Certified.{IsCertified, is_two_phase};
 ghost use Rattle.certificates.specs.Updates.{task_for, rollout};
 ghost use Rattle.certificates.specs.declared.Evidence.TheVariants.{Ordered};
 ghost use Rattle.plan_checker.specs.Fits.{Fits};
@@ -20,11 +19,10 @@ use crate::cause_lines::{cause_line, named_class};
 use certificates::laws::certified_consistent;
 use certificates::{OrderedEvidence, Plan};
 use check_reasons::Case;
-use command_base::{Reply, Status, UpdateFiles};
+use command_base::{Reply, Status, UpdateFiles, no_classes_reply};
 use dest_classes::Class;
 use net_base::Memory;
-use plan_checker::CheckRoom;
-use plan_verdict::{PlanRoom, plan_room};
+use plan_checker::UpdateRoom;
 use round_certifier::{CertifyFault, Refusal, certify, with_evidence};
 use std::alloc::Global;
 use topology::Net;
@@ -78,7 +76,7 @@ fn find_evidence(
     alloc: Global,
     files: &UpdateFiles,
     plan: &Plan,
-    room: &mut CheckRoom,
+    room: &mut UpdateRoom,
 ) -> Result<OrderedEvidence, CertifyFault>
     requires old { IsUserConfig files.now.net (rules_of_all files.now.old) }
     requires new { IsUserConfig files.now.net (rules_of_all files.now.new) }
@@ -113,13 +111,12 @@ fn judge_rounds(
     alloc: Global,
     files: &UpdateFiles,
     plan: Plan,
-    mut room: CheckRoom,
+    mut room: UpdateRoom,
 ) -> Result<Reply, Memory>
     requires old { IsUserConfig files.now.net (rules_of_all files.now.old) }
     requires new { IsUserConfig files.now.net (rules_of_all files.now.new) }
     requires valid { IsValidPlan files.now.net plan }
     requires fits { Fits (task_for (meaning_of files.now) plan) room }
-    requires few { class_count (classes_for (task_for (meaning_of files.now) plan)) ≤ 8192 }
     ensures { IfOk result
         (λ r. IsCertifyAnswer (record { update = meaning_of files.now; plan = plan })
         (answer_of r)) }
@@ -130,7 +127,7 @@ fn judge_rounds(
             evidence_reply(alloc, files, plan, evidence)
         }
         Err(CertifyFault::Refused(cause)) => {
-            let class = named_class(room.classes(), cause);
+            let class = named_class(&room.classed.map, cause);
             drop(room);
             drop(plan);
             cause_reply(alloc, &files.net, class, cause)
@@ -153,15 +150,18 @@ pub(crate) fn rounds_reply(alloc: Global, files: &UpdateFiles, plan: Plan) -> Re
         (λ r. IsCertifyAnswer (record { update = meaning_of files.now; plan = plan })
         (answer_of r)) }
 {
-    match plan_room(alloc, files, &plan) {
-        Ok(PlanRoom::Made(room)) => judge_rounds(alloc, files, plan, room),
-        Ok(PlanRoom::TooMany(reply)) => {
+    match UpdateRoom::make(
+        alloc,
+        &files.net,
+        &files.old,
+        &files.new,
+        &files.demands,
+        &plan,
+    ) {
+        Ok(room) => judge_rounds(alloc, files, plan, room),
+        Err(fault) => {
             drop(plan);
-            Ok(reply)
-        }
-        Err(memory) => {
-            drop(plan);
-            Err(memory)
+            no_classes_reply(alloc, fault)
         }
     }
 }

@@ -14,7 +14,8 @@ ghost use Rattle.check_command.specs.Checks.{IsPlanVerdict};
 
 use crate::accepted_line::accepted_line;
 use certificates::Plan;
-use command_base::{Reply, Status, UpdateFiles};
+use check_base::refused_reply;
+use command_base::{Reply, Status, UpdateFiles, no_classes_reply};
 use net_base::Memory;
 use plan_verdict::{PlanVerdict, plan_verdict};
 use std::alloc::Global;
@@ -47,12 +48,15 @@ pub(crate) fn verdict_reply(
         (λ r. IsPlanVerdict (task_for (meaning_of files.now) plan.now) plan.now.evidence
         (answer_of r)) }
 {
-    match plan_verdict(alloc, files, plan)? {
-        PlanVerdict::Certified(room) => {
+    match plan_verdict(alloc, files, plan) {
+        Ok(PlanVerdict::Certified(room)) => {
             let reply = accepted_reply(alloc, plan, room.classes().count());
             drop(room);
             reply
         }
-        PlanVerdict::Refused(reply) => Ok(reply),
+        Ok(PlanVerdict::Refused(reason, class)) => {
+            refused_reply(alloc, &files.net, class, reason)
+        }
+        Err(fault) => no_classes_reply(alloc, fault),
     }
 }

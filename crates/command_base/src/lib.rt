@@ -27,5 +27,5 @@ pub use crate::readings::{
 };
 pub use crate::reply::Reply;
 pub use crate::status::Status;
-pub use crate::too_many::too_many_reply;
+pub use crate::too_many::no_classes_reply;
 pub use crate::updates::{UpdateFiles, read_update};

@@ -1,23 +1,20 @@
 //! The verdict on a configuration: too many classes, good paths, or the first class whose path isn't good.
-ghost use Rattle.std.specs.Prelude.{◌≡◌, ◌++◌, ◌<◌, ◌≤◌, length, map, IfOk};
-ghost use Rattle.topology.specs.Networks.{switch_count};
+ghost use Rattle.std.specs.Prelude.{◌≡◌, ◌++◌, map, IfOk};
 ghost use Rattle.flow_rules.specs.Tables.{rules_of_all, table_blocks};
 ghost use Rattle.path_walk.specs.UserConfigs.{IsUserConfig};
-ghost use Rattle.demands.specs.Good.{HasGoodPaths};
-ghost use Rattle.config_check.specs.Broken.{IsFirstBreak};
-ghost use Rattle.config_check.specs.Everywhere.{HasGoodPathEverywhere};
-ghost use Rattle.command_base.specs.Judgements.{most_classes};
+ghost use Rattle.judged_classes.specs.Classed.{AreClassed};
 ghost use Rattle.command_base.specs.Replies.{answer_of};
 ghost use Rattle.config_command.specs.Lines as lines;
-ghost use Rattle.config_command.specs.Verdicts.{IsVerdict, classes_under, count_under};
+ghost use Rattle.config_command.specs.Verdicts.{IsVerdict, classes_under};
 
 use crate::lines::{breaks_line, holds_line};
-use command_base::{Reply, Status, too_many_reply};
+use command_base::{Reply, Status, no_classes_reply};
 use config_check::laws::classes_speak_for_addresses;
 use config_check::{How, check_config};
-use demands::{Demands, Duties};
-use dest_classes::{Class, ClassFault, ClassMap, class_map};
+use demands::Demands;
+use dest_classes::Class;
 use flow_rules::Config;
+use judged_classes::Classed;
 use net_base::{Memory, Prefix};
 use path_walk::PathRoom;
 use std::alloc::Global;
@@ -60,17 +57,17 @@ fn judge(
     net: &Net,
     config: &Config,
     demands: &Demands,
-    classes: &ClassMap,
+    classed: &Classed,
 ) -> Result<Reply, Memory>
     requires user { IsUserConfig net.now (rules_of_all config.now) }
-    requires classes { classes.now ≡ classes_under net.now (rules_of_all config.now) demands.now }
-    requires few { count_under net.now (rules_of_all config.now) demands.now ≤ most_classes }
+    requires classed { AreClassed (classes_under net.now (rules_of_all config.now) demands.now)
+        demands.now classed.now }
     ensures { IfOk result
         (λ r. IsVerdict net.now (rules_of_all config.now) demands.now (answer_of r)) }
 {
-    let duties = Duties::make(alloc, net, demands, classes)?;
+    let classes = &classed.map;
     let mut room = PathRoom::make(alloc, net)?;
-    match check_config(net, config, &duties, classes, &mut room) {
+    match check_config(net, config, &classed.duties, classes, &mut room) {
         Ok(()) => {
             classes_speak_for_addresses(net, config, demands, classes);
             holds_reply(alloc, classes.count())
@@ -91,9 +88,12 @@ pub fn verdict(
         (λ r. IsVerdict net.now (rules_of_all config.now) demands.now (answer_of r)) }
 {
     let prefixes = prefixes_of(config, demands)?;
-    match class_map(alloc, net, &prefixes) {
-        Ok(classes) => judge(alloc, net, config, demands, &classes),
-        Err(ClassFault::TooManyClasses(classes)) => too_many_reply(alloc, classes),
-        Err(ClassFault::Memory) => Err(Memory),
+    match Classed::make(alloc, net, demands, &prefixes) {
+        Ok(classed) => {
+            let reply = judge(alloc, net, config, demands, &classed);
+            drop(classed);
+            reply
+        }
+        Err(fault) => no_classes_reply(alloc, fault),
     }
 }

@@ -20,7 +20,7 @@ use certificates::Plan;
 use command_base::{Reply, Status, UpdateFiles};
 use driver_input::Inputs;
 use net_base::Memory;
-use plan_verdict::{PlanVerdict, plan_verdict};
+use plan_verdict::refusal_reply;
 use replay_command::not_a_run_reply;
 use schedule_pilot::laws::certified_begins_safely;
 use std::alloc::Global;
@@ -94,11 +94,8 @@ pub fn drive_verdict(
           inputs = inputs.now;
         }) (answer_of r)) }
 {
-    match plan_verdict(alloc, files, plan)? {
-        PlanVerdict::Certified(room) => {
-            drop(room);
-            driven_reply(alloc, files, plan, inputs)
-        }
-        PlanVerdict::Refused(reply) => Ok(reply),
+    match refusal_reply(alloc, files, plan)? {
+        None => driven_reply(alloc, files, plan, inputs),
+        Some(reply) => Ok(reply),
     }
 }

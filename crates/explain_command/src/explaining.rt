@@ -16,7 +16,7 @@ use certificates::Plan;
 use command_base::UpdateFiles;
 use counter_run::{Explained, explain};
 use net_base::Memory;
-use plan_checker::CheckRoom;
+use plan_checker::UpdateRoom;
 use schedule_replay::{runs_have_lines, schedule_text};
 use std::alloc::Global;
 use update_model::Events;
@@ -45,7 +45,7 @@ pub fn explanation(
     alloc: Global,
     files: &UpdateFiles,
     plan: &Plan,
-    room: &CheckRoom,
+    room: &UpdateRoom,
 ) -> Result<Vec<u8>, Memory>
     requires old { IsUserConfig files.now.net (rules_of_all files.now.old) }
     requires valid { IsValidPlan files.now.net plan.now }
@@ -55,7 +55,7 @@ pub fn explanation(
     ensures { IfOk result
         (λ text. IsExplanation (task_for (meaning_of files.now) plan.now) text.items) }
 {
-    let (classes, duties) = (room.classes(), room.duties());
+    let (classes, duties) = (&room.classed.map, &room.classed.duties);
     match explain(alloc, &files.net, &files.old, &plan.rounds, duties, classes)? {
         Explained::Run(events) => breaking_schedule(alloc, files, plan, &events),
         Explained::Nothing => Ok(b"no run: every mixed walk is good\n".to_vec(alloc)?),

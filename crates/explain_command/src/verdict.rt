@@ -1,12 +1,10 @@
 //! What is said of the plan that is explained: too many classes, why its mixed walks aren't looked at, a run that breaks the duties of a
 //! class, or that there is none.
 ghost use Rattle.certificates.specs.Updates.{rollout, task_for};
-ghost use Rattle.std.specs.Prelude.{◌≤◌, IfOk};
+ghost use Rattle.std.specs.Prelude.{IfOk};
 ghost use Rattle.flow_rules.specs.Tables.{rules_of_all};
 ghost use Rattle.path_walk.specs.UserConfigs.{IsUserConfig};
-ghost use Rattle.dest_classes.specs.Classes.{class_count};
 ghost use Rattle.certificates.specs.Valid.{IsValidPlan};
-ghost use Rattle.certificates.specs.Certified.{classes_for};
 ghost use Rattle.update_model.specs.Mixtures.{AreGoodRounds, AreClearRounds};
 ghost use Rattle.plan_checker.specs.Fits.{Fits};
 ghost use Rattle.plan_checker.specs.Checking.{EndsAreGood};
@@ -19,10 +17,9 @@ use crate::reasons::round_reason;
 use certificates::{Evidence, Plan};
 use check_base::{class_of, refused_reply};
 use check_reasons::Case;
-use command_base::{Reply, Status, UpdateFiles};
+use command_base::{Reply, Status, UpdateFiles, no_classes_reply};
 use net_base::Memory;
-use plan_checker::{CheckRoom, end_reason};
-use plan_verdict::{PlanRoom, plan_room};
+use plan_checker::{UpdateRoom, end_reason};
 use std::alloc::Global;
 
 /// What is said of a plan whose configurations and rounds are good.
@@ -30,12 +27,11 @@ fn judge_walks(
     alloc: Global,
     files: &UpdateFiles,
     plan: &Plan,
-    room: &CheckRoom,
+    room: &UpdateRoom,
 ) -> Result<Reply, Memory>
     requires old { IsUserConfig files.now.net (rules_of_all files.now.old) }
     requires valid { IsValidPlan files.now.net plan.now }
     requires fits { Fits (task_for (meaning_of files.now) plan.now) room.now }
-    requires few { class_count (classes_for (task_for (meaning_of files.now) plan.now)) ≤ 8192 }
     requires ends { EndsAreGood (task_for (meaning_of files.now) plan.now) }
     requires good { AreGoodRounds (rollout (task_for (meaning_of files.now) plan.now)) }
     requires clear { AreClearRounds (rollout (task_for (meaning_of files.now) plan.now)) }
@@ -60,12 +56,11 @@ fn judge_rounds(
     alloc: Global,
     files: &UpdateFiles,
     plan: &Plan,
-    room: &CheckRoom,
+    room: &UpdateRoom,
 ) -> Result<Reply, Memory>
     requires old { IsUserConfig files.now.net (rules_of_all files.now.old) }
     requires valid { IsValidPlan files.now.net plan.now }
     requires fits { Fits (task_for (meaning_of files.now) plan.now) room.now }
-    requires few { class_count (classes_for (task_for (meaning_of files.now) plan.now)) ≤ 8192 }
     requires ends { EndsAreGood (task_for (meaning_of files.now) plan.now) }
     ensures { IfOk result
         (λ r. IsExplainAnswer (record { update = meaning_of files.now; plan = plan.now })
@@ -82,13 +77,12 @@ fn judge_plan(
     alloc: Global,
     files: &UpdateFiles,
     plan: &Plan,
-    room: &mut CheckRoom,
+    room: &mut UpdateRoom,
 ) -> Result<Reply, Memory>
     requires old { IsUserConfig files.now.net (rules_of_all files.now.old) }
     requires new { IsUserConfig files.now.net (rules_of_all files.now.new) }
     requires valid { IsValidPlan files.now.net plan.now }
     requires fits { Fits (task_for (meaning_of files.now) plan.now) room.old }
-    requires few { class_count (classes_for (task_for (meaning_of files.now) plan.now)) ≤ 8192 }
     ensures { IfOk result
         (λ r. IsExplainAnswer (record { update = meaning_of files.now; plan = plan.now })
         (answer_of r)) }
@@ -102,7 +96,7 @@ fn judge_plan(
     };
     match end_reason(&case, room) {
         Some(reason) => {
-            let class = class_of(room.classes(), reason);
+            let class = class_of(&room.classed.map, reason);
             refused_reply(alloc, &files.net, class, reason)
         }
         None => judge_rounds(alloc, files, plan, room),
@@ -119,12 +113,19 @@ pub fn explain_verdict(alloc: Global, files: &UpdateFiles, plan: &Plan) -> Resul
         (λ r. IsExplainAnswer (record { update = meaning_of files.now; plan = plan.now })
         (answer_of r)) }
 {
-    match plan_room(alloc, files, plan)? {
-        PlanRoom::Made(mut room) => {
+    match UpdateRoom::make(
+        alloc,
+        &files.net,
+        &files.old,
+        &files.new,
+        &files.demands,
+        plan,
+    ) {
+        Ok(mut room) => {
             let reply = judge_plan(alloc, files, plan, &mut room);
             drop(room);
             reply
         }
-        PlanRoom::TooMany(reply) => Ok(reply),
+        Err(fault) => no_classes_reply(alloc, fault),
     }
 }

@@ -38,6 +38,7 @@ use Rattle.table_difference.specs.SameClasses.{HasSameClasses, MakeNoClasses}
 use Rattle.plan_command.specs.Ends.{BothEndsAreGood}
 use Rattle.plan_command.proofs.UpdateAnswers.{count_same}
 use Rattle.command_base.specs.Judgements.{most_classes}
+use Rattle.plan_checker.specs.Checking.{EndsAreGood}
 use Rattle.pack_command.proofs.StandLaws.{IsStanding, tables_of_user, keeps_round, standing_at, ends_at_new, changes_few, remaining_few, ranges, no_prefix}
 
 module _ (u : Update) (old_user : IsUserConfig u.net u.old) (new_user : IsUserConfig u.net u.new) (p : Plan) (packed : PacksOrdered (update_target u) u.old p.rounds) where
@@ -112,6 +113,10 @@ module _ (u : Update) (old_user : IsUserConfig u.net u.old) (new_user : IsUserCo
         }
 
     module _ (good : BothEndsAreGood u) where
+      -- both ends are good for the classes of the plan
+      pub ends_good : EndsAreGood t
+      ends_good = record { old_good = good_for u.old good.old_good; new_good = good_for u.new good.new_good }
+
       common_refuted : (reason : Reason) → ¬ IsCommonReason t 0 reason
       common_refuted reason (old_breaks breaks first) = break_refuted u.net u.old u.demands (classes_for t) breaks first (good_for u.old good.old_good)
       common_refuted reason (new_breaks breaks first) = break_refuted u.net u.new u.demands (classes_for t) breaks first (good_for u.new good.new_good)

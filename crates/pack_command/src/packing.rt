@@ -20,10 +20,10 @@ ghost use Rattle.pack_command.specs.Chosen.{IsBarePacked, IsEvidenceFor, IsPacke
 use certificates::{Evidence, OrderedEvidence, Plan};
 use check_reasons::Case;
 use command_base::UpdateFiles;
+use dest_classes::ClassFault;
 use net_base::{ListOf, Memory};
-use plan_checker::CheckRoom;
-use plan_verdict::{PlanRoom, plan_room};
-use round_certifier::{CertifyFault, certify, with_evidence};
+use plan_checker::UpdateRoom;
+use round_certifier::{CertifyFault, certify_rounds, with_evidence};
 use std::alloc::Global;
 use table_difference::classes::rounds_make_no_classes;
 use update_model::Rounds;
@@ -45,7 +45,7 @@ fn certify_packed(
     alloc: Global,
     files: &UpdateFiles,
     plan: &Plan,
-    room: &mut CheckRoom,
+    room: &mut UpdateRoom,
 ) -> Result<OrderedEvidence, Memory>
     requires net { IsNetwork files.now.net }
     requires old { IsUserConfig files.now.net (rules_of_all files.now.old) }
@@ -62,7 +62,7 @@ fn certify_packed(
         demands: &files.demands,
         plan,
     };
-    match certify(alloc, &case, room) {
+    match certify_rounds(alloc, &case, room) {
         Ok(evidence) => Ok(evidence),
         Err(CertifyFault::Memory) => Err(Memory),
         Err(CertifyFault::Refused(_)) => unreachable!(),
@@ -83,13 +83,21 @@ fn packed_evidence(
     requires few { update_count (meaning_of files.now) ≤ most_classes }
     ensures { IfOk result (IsEvidenceFor (meaning_of files.now) plan.now) }
 {
-    match plan_room(alloc, files, plan)? {
-        PlanRoom::Made(mut room) => {
+    match UpdateRoom::make(
+        alloc,
+        &files.net,
+        &files.old,
+        &files.new,
+        &files.demands,
+        plan,
+    ) {
+        Ok(mut room) => {
             let evidence = certify_packed(alloc, files, plan, &mut room);
             drop(room);
             evidence
         }
-        PlanRoom::TooMany(_) => unreachable!(),
+        Err(ClassFault::TooManyClasses(_)) => unreachable!(),
+        Err(ClassFault::Memory) => Err(Memory),
     }
 }
 

@@ -14,10 +14,11 @@ ghost use Rattle.pack_command.specs.Packed.{SaysChosen, IsPacked};
 use crate::names::PackKind;
 use crate::packing::packed_plan;
 use crate::phasing::{ordered_reply, stuck_reply, two_phase_reply};
-use command_base::{Reply, UpdateFiles};
+use command_base::{Reply, UpdateFiles, no_classes_reply};
+use judged_classes::Classed;
 use net_base::Memory;
 use packed_trees::laws::{trees_are_never_stuck, trees_take_few_rounds};
-use plan_command::{EndsVerdict, GoodEnds, judge_ends};
+use plan_command::{EndsVerdict, break_reply, judge_ends};
 use round_packer::{Packing, pack};
 use round_planner::{Ordered, order};
 use std::alloc::Global;
@@ -54,7 +55,7 @@ fn packed_reply(
 fn search_reply(
     alloc: Global,
     files: &UpdateFiles,
-    ends: &GoodEnds,
+    ends: &Classed,
     kind: PackKind,
 ) -> Result<Reply, Memory>
     requires old { IsUserConfig files.now.net (rules_of_all files.now.old) }
@@ -69,7 +70,7 @@ fn search_reply(
         &files.old,
         &files.new,
         &ends.duties,
-        &ends.classes,
+        &ends.map,
     )? {
         Ordered::Rounds(plan) => ordered_reply(alloc, files, &plan, kind),
         Ordered::Stuck(tried) => stuck_reply(alloc, files, &tried, kind),
@@ -80,7 +81,7 @@ fn search_reply(
 fn found_reply(
     alloc: Global,
     files: &UpdateFiles,
-    ends: &GoodEnds,
+    ends: &Classed,
     kind: PackKind,
 ) -> Result<Reply, Memory>
     requires old { IsUserConfig files.now.net (rules_of_all files.now.old) }
@@ -94,7 +95,7 @@ fn found_reply(
         &files.old,
         &files.new,
         &ends.duties,
-        &ends.classes,
+        &ends.map,
     )? {
         Packing::Ordered(rounds) => packed_reply(alloc, files, rounds, kind),
         Packing::Stuck(_) => search_reply(alloc, files, ends, kind),
@@ -105,7 +106,7 @@ fn found_reply(
 fn good_reply(
     alloc: Global,
     files: &UpdateFiles,
-    ends: &GoodEnds,
+    ends: &Classed,
     kind: PackKind,
 ) -> Result<Reply, Memory>
     requires old { IsUserConfig files.now.net (rules_of_all files.now.old) }
@@ -129,12 +130,13 @@ pub(crate) fn pack_update(
     requires new { IsUserConfig files.now.net (rules_of_all files.now.new) }
     ensures { IfOk result (λ r. IsPacked kind (meaning_of files.now) (answer_of r)) }
 {
-    match judge_ends(alloc, files)? {
-        EndsVerdict::Good(ends) => {
+    match judge_ends(alloc, files) {
+        Ok(EndsVerdict::Good(ends)) => {
             let reply = good_reply(alloc, files, &ends, kind);
             drop(ends);
             reply
         }
-        EndsVerdict::Refused(reply) => Ok(reply),
+        Ok(EndsVerdict::Broken(end, class)) => break_reply(alloc, files, end, class),
+        Err(fault) => no_classes_reply(alloc, fault),
     }
 }

@@ -3,21 +3,23 @@ ghost use Rattle.std.specs.Prelude.{◌≡◌, ◌+◌, ◌≤◌, IfOk, OnOk};
 ghost use Rattle.flow_rules.specs.Tables.{rules_of_all};
 ghost use Rattle.dest_classes.specs.Numbered.{IsNumbered};
 ghost use Rattle.path_walk.specs.UserConfigs.{IsUserConfig};
+ghost use Rattle.judged_classes.specs.Classed.{AreClassed};
 ghost use Rattle.command_base.specs.Judgements.{most_classes};
 ghost use Rattle.command_base.specs.Replies.{answer_of};
 ghost use Rattle.config_command.specs.Configs.{config_count};
-ghost use Rattle.config_command.specs.Verdicts.{classes_under, count_under};
+ghost use Rattle.config_command.specs.Verdicts.{classes_under};
 ghost use Rattle.paths_command.specs.Listed.{IsJudgeable, AreRooms, IsListing, IsPathsAnswer, listed_status, meaning_of};
 ghost use Rattle.paths_command.specs.Rows.{IsMark};
 
 use crate::lines::{add_counts, add_row};
 use crate::marks::{Counts, Mark, Row};
-use command_base::{Reply, Status, too_many_reply};
+use command_base::{Reply, Status, no_classes_reply};
 use config_check::{MetPath, how_broken};
 use config_command::prefixes_of;
 use demands::{Demands, Duties};
-use dest_classes::{ClassFault, ClassMap, NumberedClass, class_map};
+use dest_classes::{ClassMap, NumberedClass};
 use flow_rules::Config;
+use judged_classes::Classed;
 use net_base::Memory;
 use path_walk::{PathRoom, follow};
 use std::alloc::Global;
@@ -170,7 +172,7 @@ fn list_in(
     })
 }
 
-/// The listing of few enough classes, with their duties.
+/// The listing of few enough classes.
 fn list_judged(
     alloc: Global,
     judged: &JudgedConfig<'_>,
@@ -190,33 +192,30 @@ fn list_judged(
     reply
 }
 
-/// The listing of few enough classes.
+/// The listing of few enough classes, with their duties.
 fn list_all(
     alloc: Global,
     net: &Net,
     config: &Config,
     demands: &Demands,
-    classes: &ClassMap,
+    classed: &Classed,
 ) -> Result<Reply, Memory>
     requires user { IsUserConfig net.now (rules_of_all config.now) }
-    requires classes { classes.now ≡ classes_under net.now (rules_of_all config.now) demands.now }
-    requires few { count_under net.now (rules_of_all config.now) demands.now ≤ most_classes }
+    requires classed { AreClassed (classes_under net.now (rules_of_all config.now) demands.now)
+        demands.now classed.now }
     ensures { IfOk result (λ r. IsPathsAnswer (record {
       net = net.now;
       tables = rules_of_all config.now;
       demands = demands.now;
     }) (answer_of r)) }
 {
-    let duties = Duties::make(alloc, net, demands, classes)?;
     let judged = JudgedConfig {
         net,
         config,
         demands,
-        duties: &duties,
+        duties: &classed.duties,
     };
-    let reply = list_judged(alloc, &judged, classes);
-    drop(duties);
-    reply
+    list_judged(alloc, &judged, &classed.map)
 }
 
 /// The listing of the classes of a configuration of the network under the demands: a line for each class and the counts. Done
@@ -236,9 +235,12 @@ pub fn listing_of(
     }) (answer_of r)) }
 {
     let prefixes = prefixes_of(config, demands)?;
-    match class_map(alloc, net, &prefixes) {
-        Ok(classes) => list_all(alloc, net, config, demands, &classes),
-        Err(ClassFault::TooManyClasses(classes)) => too_many_reply(alloc, classes),
-        Err(ClassFault::Memory) => Err(Memory),
+    match Classed::make(alloc, net, demands, &prefixes) {
+        Ok(classed) => {
+            let reply = list_all(alloc, net, config, demands, &classed);
+            drop(classed);
+            reply
+        }
+        Err(fault) => no_classes_reply(alloc, fault),
     }
 }

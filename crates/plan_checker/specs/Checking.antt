@@ -11,7 +11,10 @@ use Rattle.certificates.specs.declared.Evidence.{Evidence}
 use Rattle.certificates.specs.declared.Evidence.TheVariants.{Ordered, TwoPhase}
 use Rattle.check_reasons.specs.Cases.{CaseView}
 use Rattle.check_reasons.specs.Ranks.{stage_of, round_of, number_of, least_class_number}
-use Rattle.plan_checker.specs.Fits.{RoomView, Fits}
+use Rattle.plan_checker.specs.Fits.{FitsPlan}
+use Rattle.plan_checker.specs.declared.evidence_room.EvidenceRoom.{EvidenceRoom}
+use Rattle.plan_checker.specs.declared.evidence_room.EvidenceRoom.TheVariants as room
+use Rattle.plan_checker.specs.declared.room.CheckRoom.{CheckRoom}
 use Rattle.class_watch.specs.Walks.{WalksStand}
 use Rattle.ordered_check.specs.Picks.{PicksStand}
 use Rattle.round_tables.specs.PreparedTables.{StandsBefore}
@@ -40,12 +43,14 @@ pub record IsOfChanges (k : ℕ) (r : Reason) : Type 0 where
   pub number : number_of r < least_class_number
 
 -- what is kept of the picks, and of the walks of an ordered plan, stands before round k
-abbrev pub EvidenceStands : Task → Evidence → ℕ → RoomView → Type 0
-EvidenceStands t (Ordered e) k room = PicksStand e.picks k room.ordered.picks × WalksStand (rollout t) k room.ordered.classes room.ordered.came
-EvidenceStands t (TwoPhase e) k room = LabelsStand t.update.net e k room.two_phase
+abbrev pub EvidenceStands : Task → Evidence → ℕ → EvidenceRoom → Type 0
+EvidenceStands t (Ordered e) k (room.Ordered kept) = PicksStand e.picks k kept.picks × WalksStand (rollout t) k kept.classes kept.came
+EvidenceStands t (Ordered e) k (room.TwoPhase labels) = ⊥
+EvidenceStands t (TwoPhase e) k (room.Ordered kept) = ⊥
+EvidenceStands t (TwoPhase e) k (room.TwoPhase labels) = LabelsStand t.update.net e k labels
 
 -- the rooms fit the case and stand before round k
-pub record IsReadyToCheck (c : CaseView) (k : ℕ) (room : RoomView) : Type 0 where
-  pub fits : Fits c.task room
-  pub tables : StandsBefore (rollout c.task) k room.tables
-  pub evidence : EvidenceStands c.task c.evidence k room
+pub record IsReadyToCheck (c : CaseView) (k : ℕ) (room : CheckRoom) : Type 0 where
+  pub fits : FitsPlan c.task c.evidence room
+  pub tables : StandsBefore (rollout c.task) k room.update.tables
+  pub evidence : EvidenceStands c.task c.evidence k room.evidence

@@ -1,42 +1,33 @@
 -- The rooms of a check, and when they fit what is checked.
-use Rattle.std.specs.Prelude.{◌≡◌, ◌<◌}
+use Rattle.std.specs.Prelude.{◌≡◌}
 use Rattle.topology.specs.Networks.{switch_count}
-use Rattle.path_walk.specs.Walked.{RoomState}
-use Rattle.dest_classes.specs.Classes.{ClassList, class_count}
-use Rattle.dest_classes.specs.declared.ClassFault.{ClassFault}
-use Rattle.dest_classes.specs.declared.ClassFault.TheVariants as class
-use Rattle.demands.specs.Duties.{ClassDuties}
+use Rattle.dest_classes.specs.Classes.{ClassList}
+use Rattle.judged_classes.specs.Classed.{AreClassed}
 use Rattle.certificates.specs.Updates.{Task, rollout}
 use Rattle.certificates.specs.Certified.{classes_for}
-use Rattle.round_tables.specs.PreparedTables.{PreparedState, HasTableRoom}
-use Rattle.ordered_check.specs.Kept.{OrderedState, HasClassRoom}
-use Rattle.two_phase_check.specs.declared.labels.LabelsInForce.{LabelsInForce}
-use Rattle.plan_checker.specs.declared.room.RoomFault.{RoomFault}
-use Rattle.plan_checker.specs.declared.room.RoomFault.TheVariants.{TooManyClasses, Memory}
+use Rattle.certificates.specs.declared.Evidence.{Evidence}
+use Rattle.certificates.specs.declared.Evidence.TheVariants.{Ordered, TwoPhase}
+use Rattle.round_tables.specs.PreparedTables.{HasTableRoom}
+use Rattle.ordered_check.specs.Kept.{HasClassRoom}
+use Rattle.plan_checker.specs.declared.evidence_room.EvidenceRoom.{EvidenceRoom}
+use Rattle.plan_checker.specs.declared.evidence_room.EvidenceRoom.TheVariants as room
+use Rattle.plan_checker.specs.declared.room.CheckRoom.{CheckRoom}
+use Rattle.plan_checker.specs.declared.room.UpdateRoom.{UpdateRoom}
 
--- the classes and their duties, and the rooms for tables, for the classes of a round and for paths
-pub record RoomView : Type 0 where
-  pub classes : ClassList
-  pub duties : ClassDuties
-  pub tables : PreparedState
-  pub ordered : OrderedState
-  pub two_phase : LabelsInForce
-  pub path : RoomState
-
--- the classes are those of the update, the duties are made of its demands and these classes, and the rooms suffice for its rounds
-pub record Fits (t : Task) (room : RoomView) : Type 0 where
-  pub classes : room.classes ≡ classes_for t
-  pub duties : room.duties ≡ record { demands = t.update.demands; classes = room.classes }
+-- the classes are those of the update with their duties, and the rooms suffice for its rounds
+pub record Fits (t : Task) (room : UpdateRoom) : Type 0 where
+  pub classed : AreClassed (classes_for t) t.update.demands room.classed
   pub tables : HasTableRoom (rollout t) room.tables
-  pub ordered : HasClassRoom (classes_for t) room.ordered
   pub path : room.path.switches ≡ switch_count t.update.net
 
--- why there is no room where there is no class map
-abbrev pub room_fault : ClassFault → RoomFault
-room_fault (class.TooManyClasses n) = TooManyClasses n
-room_fault class.Memory = Memory
+-- the room is that of the evidence's kind, and suffices for these classes
+abbrev pub FitsEvidence : ClassList → Evidence → EvidenceRoom → Type 0
+FitsEvidence classes (Ordered e) (room.Ordered kept) = HasClassRoom classes kept
+FitsEvidence classes (Ordered e) (room.TwoPhase labels) = ⊥
+FitsEvidence classes (TwoPhase e) (room.Ordered kept) = ⊥
+FitsEvidence classes (TwoPhase e) (room.TwoPhase labels) = Unit {0}
 
--- there are more than 8192 classes, so many
-abbrev pub IsCauseFor : ClassList → RoomFault → Type 0
-IsCauseFor classes (TooManyClasses n) = (n ≡ class_count classes) × (8192 < n)
-IsCauseFor classes Memory = Unit {0}
+-- the room of a check suffices for the update and for the evidence
+pub record FitsPlan (t : Task) (e : Evidence) (room : CheckRoom) : Type 0 where
+  pub update : Fits t room.update
+  pub evidence : FitsEvidence (classes_for t) e room.evidence

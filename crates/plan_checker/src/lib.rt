@@ -2,6 +2,7 @@
 #![tactic(auto)]
 
 mod checking;
+mod evidence_room;
 mod prefixes;
 mod rewriting;
 mod room;
@@ -9,4 +10,5 @@ pub mod tables;
 
 pub use check_reasons::{Reason, Verdict};
 pub use checking::{check, end_reason};
-pub use room::{CheckRoom, RoomFault};
+pub use evidence_room::EvidenceRoom;
+pub use room::{CheckRoom, RoomFault, UpdateRoom};

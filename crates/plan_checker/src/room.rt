@@ -1,110 +1,45 @@
 //! All memory of a check.
-ghost use Rattle.std.specs.Prelude.{◌≡◌, ◌≤◌, length, IfOk, IfErr};
+ghost use Rattle.std.specs.Prelude.{◌≡◌, length, IfOk, IfErr};
 ghost use Rattle.topology.specs.Networks.{switch_count};
-ghost use Rattle.dest_classes.specs.Classes.{class_count};
+ghost use Rattle.dest_classes.specs.Numbered.{IsCauseOf};
 ghost use Rattle.certificates.specs.Certified.{classes_for};
 ghost use Rattle.certificates.specs.Laws.{task_of};
-ghost use Rattle.round_tables.specs.PreparedTables.{HasTableRoom};
-ghost use Rattle.ordered_check.specs.Kept.{HasClassRoom};
-ghost use Rattle.plan_checker.specs.Fits.{Fits, IsCauseFor};
+ghost use Rattle.judged_classes.specs.Classed.{AreClassed};
+ghost use Rattle.plan_checker.specs.Fits.{Fits, FitsPlan};
 
+use crate::evidence_room::EvidenceRoom;
 use crate::prefixes::prefixes_of;
 use certificates::Plan;
-use demands::{Demands, Duties};
-use dest_classes::{ClassFault, ClassMap, class_map};
+use demands::Demands;
+use dest_classes::{ClassFault, ClassMap};
 use flow_rules::Config;
+use judged_classes::Classed;
 use net_base::Memory;
-use ordered_check::OrderedRoom;
 use path_walk::PathRoom;
 use round_tables::{PreparedTables, Rollout};
 use std::alloc::Global;
-use std::marker::Model;
 use topology::Net;
-use two_phase_check::TwoPhaseRoom;
 
-/// All memory of a check: the class map of an update, its duties, and room for each table, round and walk.
+/// Why there is no room for a check: there are more than 8192 classes, or memory was wanting.
+pub type RoomFault = ClassFault;
+
+/// What is judged of an update and of the rounds of a plan, whatever evidence it has: the classes with their duties, and room for
+/// each table, round and path.
 #[derive(Drop)]
-pub struct CheckRoom {
-    pub classes: ClassMap,
-    pub duties: Duties,
+pub struct UpdateRoom {
+    pub classed: Classed,
     pub tables: PreparedTables,
-    pub ordered: OrderedRoom,
-    pub two_phase: TwoPhaseRoom,
     pub path: PathRoom,
 }
 
-impl Model for CheckRoom {
-    ghost use Rattle.plan_checker.specs.Fits.{RoomView};
-
-    ghost Value = { RoomView };
-
-    ghost view = { λ r. record { classes = r.classes; duties = r.duties; tables = r.tables; ordered = r.ordered; two_phase = r.two_phase; path = r.path } };
-}
-
-/// Why there is no room for a check.
-#[derive(Clone, Copy, Debug, PartialEq, Eq)]
-pub enum RoomFault {
-    /// There are more than 8192 classes: how many.
-    TooManyClasses(u64),
-    /// Memory was wanting.
-    Memory,
-}
-
-impl From<Memory> for RoomFault {
-    ghost use Rattle.std.specs.Prelude.{◌≡◌};
-    ghost use Rattle.plan_checker.specs.declared.room.RoomFault.TheVariants.{Memory};
-
-    ghost from_gives = { λ _ e. e ≡ Memory };
-
-    fn from(_: Memory) -> Self {
-        RoomFault::Memory
-    }
-}
-
-impl From<ClassFault> for RoomFault {
-    ghost use Rattle.std.specs.Prelude.{◌≡◌};
-    ghost use Rattle.plan_checker.specs.Fits.{room_fault};
-
-    ghost from_gives = { λ fault e. e ≡ room_fault fault };
-
-    fn from(fault: ClassFault) -> Self {
-        match fault {
-            ClassFault::TooManyClasses(count) => RoomFault::TooManyClasses(count),
-            ClassFault::Memory => RoomFault::Memory,
-        }
-    }
-}
-
-/// The rooms of a check beside its classes and duties.
+/// All memory of a check: that of its update, and room for the evidence of the plan, by its kind.
 #[derive(Drop)]
-struct Rooms {
-    tables: PreparedTables,
-    ordered: OrderedRoom,
-    two_phase: TwoPhaseRoom,
-    path: PathRoom,
+pub struct CheckRoom {
+    pub update: UpdateRoom,
+    pub evidence: EvidenceRoom,
 }
 
-impl Rooms {
-    fn make(alloc: Global, update: &Rollout<'_>, classes: &ClassMap) -> Result<Rooms, Memory>
-        requires { length update.now.old ≡ switch_count update.now.net }
-        ensures tables { IfOk result (λ r. HasTableRoom update.now r.tables) }
-        ensures ordered { IfOk result (λ r. HasClassRoom classes.now r.ordered) }
-        ensures path { IfOk result (λ r. r.path.switches ≡ switch_count update.now.net) }
-    {
-        let path = PathRoom::make(alloc, update.net)?;
-        let tables = PreparedTables::make(alloc, update)?;
-        let two_phase = TwoPhaseRoom::make(alloc)?;
-        let ordered = OrderedRoom::make(alloc, classes)?;
-        Ok(Rooms {
-            tables,
-            ordered,
-            two_phase,
-            path,
-        })
-    }
-}
-
-/// The classes of the update that a plan carries out.
+/// The classes of the update that a plan carries out, with their duties.
 fn classes_of_plan(
     alloc: Global,
     net: &Net,
@@ -112,23 +47,54 @@ fn classes_of_plan(
     new: &Config,
     demands: &Demands,
     plan: &Plan,
-) -> Result<ClassMap, RoomFault>
-    requires old { length old.now ≡ switch_count net.now }
-    requires new { length new.now ≡ switch_count net.now }
-    ensures classes { IfOk result
-        (λ classes. classes ≡ classes_for (task_of net.now old.now new.now demands.now plan.now)) }
-    ensures few { IfOk result (λ classes. class_count classes ≤ 8192) }
+) -> Result<Classed, RoomFault>
+    ensures classed { IfOk result
+        (AreClassed (classes_for (task_of net.now old.now new.now demands.now plan.now))
+        demands.now) }
     ensures too_many { IfErr result
-        (IsCauseFor (classes_for (task_of net.now old.now new.now demands.now plan.now))) }
+        (IsCauseOf (classes_for (task_of net.now old.now new.now demands.now plan.now))) }
 {
     let prefixes = prefixes_of(old, new, demands, &plan.rounds)?;
-    Ok(class_map(alloc, net, &prefixes)?)
+    Classed::make(alloc, net, demands, &prefixes)
+}
+
+impl UpdateRoom {
+    /// Room for an update from an old to a new configuration under demands, by the rounds of a plan. It is refused with the
+    /// number of classes where that exceeds 8192. It takes time and memory in the product of classes and demands, and by the
+    /// sizes of the tables and rounds.
+    pub fn make(
+        alloc: Global,
+        net: &Net,
+        old: &Config,
+        new: &Config,
+        demands: &Demands,
+        plan: &Plan,
+    ) -> Result<UpdateRoom, RoomFault>
+        requires old { length old.now ≡ switch_count net.now }
+        requires new { length new.now ≡ switch_count net.now }
+        ensures fits { IfOk result (Fits (task_of net.now old.now new.now demands.now plan.now)) }
+        ensures too_many { IfErr result
+            (IsCauseOf (classes_for (task_of net.now old.now new.now demands.now plan.now))) }
+    {
+        let path = PathRoom::make(alloc, net)?;
+        let update = Rollout {
+            net,
+            old,
+            rounds: &plan.rounds,
+        };
+        let tables = PreparedTables::make(alloc, &update)?;
+        let classed = classes_of_plan(alloc, net, old, new, demands, plan)?;
+        Ok(UpdateRoom {
+            classed,
+            tables,
+            path,
+        })
+    }
 }
 
 impl CheckRoom {
-    /// Room for a check of a plan that leads from an old to a new configuration under demands. It is refused with the
-    /// number of classes where that exceeds 8192. It takes time and memory in the product of classes and demands, and
-    /// by the sizes of the tables and rounds.
+    /// Room for a check of a plan that leads from an old to a new configuration under demands: that of its update, and that of
+    /// the evidence of the plan's kind alone. It is refused as the former is.
     pub fn make(
         alloc: Global,
         net: &Net,
@@ -139,47 +105,25 @@ impl CheckRoom {
     ) -> Result<CheckRoom, RoomFault>
         requires old { length old.now ≡ switch_count net.now }
         requires new { length new.now ≡ switch_count net.now }
-        ensures fits { IfOk result (Fits (task_of net.now old.now new.now demands.now plan.now)) }
-        ensures few { IfOk result
-            (λ _. class_count
-            (classes_for (task_of net.now old.now new.now demands.now plan.now)) ≤ 8192) }
+        ensures fits { IfOk result
+            (FitsPlan (task_of net.now old.now new.now demands.now plan.now) plan.now.evidence) }
         ensures too_many { IfErr result
-            (IsCauseFor (classes_for (task_of net.now old.now new.now demands.now plan.now))) }
+            (IsCauseOf (classes_for (task_of net.now old.now new.now demands.now plan.now))) }
     {
-        let classes = classes_of_plan(alloc, net, old, new, demands, plan)?;
-        let duties = Duties::make(alloc, net, demands, &classes)?;
-        let update = Rollout {
-            net,
-            old,
-            rounds: &plan.rounds,
-        };
-        let Rooms {
-            tables,
-            ordered,
-            two_phase,
-            path,
-        } = Rooms::make(alloc, &update, &classes)?;
-        Ok(CheckRoom {
-            classes,
-            duties,
-            tables,
-            ordered,
-            two_phase,
-            path,
-        })
+        let update = UpdateRoom::make(alloc, net, old, new, demands, plan)?;
+        match EvidenceRoom::make(alloc, &plan.evidence, &update.classed.map) {
+            Ok(evidence) => Ok(CheckRoom { update, evidence }),
+            Err(Memory) => {
+                drop(update);
+                Err(RoomFault::Memory)
+            }
+        }
     }
 
     /// The classes of the update.
     pub fn classes(&self) -> &ClassMap
-        ensures { result.now ≡ self.now.classes }
+        ensures { result.now ≡ self.now.update.classed.map }
     {
-        &self.classes
-    }
-
-    /// The duties of the classes.
-    pub fn duties(&self) -> &Duties
-        ensures { result.now ≡ self.now.duties }
-    {
-        &self.duties
+        &self.update.classed.map
     }
 }

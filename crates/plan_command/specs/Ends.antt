@@ -3,17 +3,18 @@ use Rattle.std.specs.Prelude.{◌≡◌, ◌⊎◌, ℕ, ◌≤◌, Bool, List, 
 use Rattle.dest_classes.specs.Classes.{IsClass}
 use Rattle.dest_classes.specs.declared.Class.{Class}
 use Rattle.config_check.specs.declared.Breaks.{Breaks}
+use Rattle.judged_classes.specs.declared.classed.Classed.{Classed}
+use Rattle.config_check.specs.declared.ends.EndBreak.{EndBreak}
+use Rattle.judged_classes.specs.Classed.{AreClassed}
 use Rattle.config_check.specs.Ends.{AreGoodEnds, IsFirstEndBreak}
 use Rattle.certificates.specs.Updates.{Update}
 use Rattle.check_reasons.specs.declared.reason.Reason.TheVariants.{EndBreaks}
 use Rattle.round_planner.specs.Updates.{update_classes, update_count}
 use Rattle.command_base.specs.Answers.{Answer}
 use Rattle.command_base.specs.Judgements.{SaysTooMany, SaysWhyNot, most_classes}
-use Rattle.command_base.specs.Replies.{answer_of}
 use Rattle.check_base.specs.ReasonLines.{refused_line}
-use Rattle.plan_command.specs.declared.ends.GoodEnds.{GoodEnds}
 use Rattle.plan_command.specs.declared.ends.EndsVerdict.{EndsVerdict}
-use Rattle.plan_command.specs.declared.ends.EndsVerdict.TheVariants.{Good, Refused}
+use Rattle.plan_command.specs.declared.ends.EndsVerdict.TheVariants.{Good, Broken}
 
 -- both configurations have good paths for all classes of the update
 abbrev pub BothEndsAreGood : Update → Type 0
@@ -37,13 +38,18 @@ abbrev pub IsEndsRefusal : Update → Answer → Type 0
 IsEndsRefusal u answer = SaysTooMany (update_count u) answer ⊎ SaysWhyNot (update_count u) (BothEndsAreGood u) (IsEndLine u) answer
 
 -- both ends are good, and these are the classes, which are few enough, and their duties
-pub record AreEndsOf (u : Update) (ends : GoodEnds) : Type 0 where
-  pub classes : ends.classes ≡ update_classes u
-  pub duties : ends.duties ≡ record { demands = u.demands; classes = ends.classes }
-  pub few : update_count u ≤ most_classes
+pub record AreEndsOf (u : Update) (ends : Classed) : Type 0 where
+  pub classed : AreClassed (update_classes u) u.demands ends
   pub good : BothEndsAreGood u
 
--- the verdict on both ends: they are good, or what the answer says
+-- there are few enough classes, an end isn't good, and this is the first break, at this class
+pub record IsBrokenEnd (u : Update) (end : EndBreak) (class : Class) : Type 0 where
+  pub few : update_count u ≤ most_classes
+  pub fails : ¬ BothEndsAreGood u
+  pub first : IsFirstBreakOf u end.new end.breaks
+  pub is_class : IsClass (update_classes u) end.breaks.class class
+
+-- the verdict on both ends: they are good, or the first break
 abbrev pub IsVerdictOnEnds : Update → EndsVerdict → Type 0
 IsVerdictOnEnds u (Good ends) = AreEndsOf u ends
-IsVerdictOnEnds u (Refused reply) = IsEndsRefusal u (answer_of reply)
+IsVerdictOnEnds u (Broken end class) = IsBrokenEnd u end class

@@ -8,6 +8,6 @@ mod no_plan_lines;
 mod planning;
 
 pub use crate::command::plan;
-pub use crate::ends::{EndsVerdict, GoodEnds, judge_ends};
+pub use crate::ends::{EndsVerdict, break_reply, judge_ends};
 pub use crate::no_plan_lines::tried_line;
 pub use crate::planning::no_plan_reply;

@@ -17,11 +17,12 @@ ghost use Rattle.upgrade_command.specs.Texts.{SaysPlan};
 ghost use Rattle.plan_command.specs.Ends.{BothEndsAreGood, AreEndsOf};
 ghost use Rattle.plan_command.specs.Planned.{SaysPlanOf, IsNewPlan, SaysOrdered, SaysNoPhases, SaysSearched, IsPlanned};
 
-use crate::ends::{EndsVerdict, GoodEnds, judge_ends};
+use crate::ends::{EndsVerdict, break_reply, judge_ends};
 use crate::no_plan_lines::{too_few_lines, too_small_lines};
 use certificates::Plan;
 use certificates::laws::certified_consistent;
-use command_base::{Reply, Status, UpdateFiles};
+use command_base::{Reply, Status, UpdateFiles, no_classes_reply};
+use judged_classes::Classed;
 use net_base::Memory;
 use round_planner::{Ordered, order};
 use std::alloc::Global;
@@ -91,7 +92,7 @@ fn two_phase_reply(alloc: Global, files: &UpdateFiles, tried: &Rounds) -> Result
 }
 
 /// The reply by an ordered plan, or by two phases where the search is stuck.
-fn search_reply(alloc: Global, files: &UpdateFiles, ends: &GoodEnds) -> Result<Reply, Memory>
+fn search_reply(alloc: Global, files: &UpdateFiles, ends: &Classed) -> Result<Reply, Memory>
     requires old { IsUserConfig files.now.net (rules_of_all files.now.old) }
     requires new { IsUserConfig files.now.net (rules_of_all files.now.new) }
     requires ends { AreEndsOf (meaning_of files.now) ends.now }
@@ -105,7 +106,7 @@ fn search_reply(alloc: Global, files: &UpdateFiles, ends: &GoodEnds) -> Result<R
         &files.old,
         &files.new,
         &ends.duties,
-        &ends.classes,
+        &ends.map,
     )? {
         Ordered::Rounds(plan) => new_plan_reply(alloc, files, &plan),
         Ordered::Stuck(tried) => two_phase_reply(alloc, files, &tried),
@@ -118,12 +119,13 @@ pub(crate) fn new_plan(alloc: Global, files: &UpdateFiles) -> Result<Reply, Memo
     requires new { IsUserConfig files.now.net (rules_of_all files.now.new) }
     ensures { IfOk result (λ r. IsPlanned (meaning_of files.now) (answer_of r)) }
 {
-    match judge_ends(alloc, files)? {
-        EndsVerdict::Good(ends) => {
+    match judge_ends(alloc, files) {
+        Ok(EndsVerdict::Good(ends)) => {
             let reply = search_reply(alloc, files, &ends);
             drop(ends);
             reply
         }
-        EndsVerdict::Refused(reply) => Ok(reply),
+        Ok(EndsVerdict::Broken(end, class)) => break_reply(alloc, files, end, class),
+        Err(fault) => no_classes_reply(alloc, fault),
     }
 }

@@ -1,8 +1,8 @@
-//! The verdict on a plan of an update: it is certified, or the reply that says why it isn't. And the room for the check of a plan.
+//! The verdict on a plan of an update: it is certified, or the first reason why it isn't.
 #![tactic(auto)]
 
-mod room;
+mod refusal;
 mod verdict;
 
-pub use room::{PlanRoom, plan_room};
+pub use refusal::refusal_reply;
 pub use verdict::{PlanVerdict, plan_verdict};

@@ -19,7 +19,7 @@ use check_reasons::Case;
 use class_watch::all_classes;
 use net_base::Memory;
 use plan_checker::tables::{apply_round, load_round, start, wrong_end};
-use plan_checker::{CheckRoom, end_reason};
+use plan_checker::{UpdateRoom, end_reason};
 use round_judge::{Goal, RoundVerdict, put_picks};
 use round_tables::PreparedTables;
 use std::alloc::Global;
@@ -101,11 +101,11 @@ fn certify_all(
     }
 }
 
-/// Evidence for the rounds of a case whose ends are good, or the first cause why there is none.
-fn certify_rounds(
+/// As `certify`, for an ordered plan whose ends are known to be good: they aren't looked at.
+pub fn certify_rounds(
     alloc: Global,
     case: &Case,
-    room: &mut CheckRoom,
+    room: &mut UpdateRoom,
 ) -> Result<OrderedEvidence, CertifyFault>
     requires fits { Fits case.now.task room.old }
     requires ordered { is_two_phase case.now.evidence ≡ false }
@@ -120,13 +120,13 @@ fn certify_rounds(
 {
     case.keeps_rules();
     case.net.keeps_rules();
-    let list = all_classes(alloc, &room.classes)?;
-    let mut so_far = RoundEvidence::make(alloc, &room.classes)?;
+    let list = all_classes(alloc, &room.classed.map)?;
+    let mut so_far = RoundEvidence::make(alloc, &room.classed.map)?;
     let goal = Goal {
         net: case.net,
         new: case.new,
-        duties: &room.duties,
-        classes: &room.classes,
+        duties: &room.classed.duties,
+        classes: &room.classed.map,
         list,
     };
     let refusal = certify_all(alloc, case, &goal, &mut room.tables, &mut so_far);
@@ -158,7 +158,7 @@ fn is_two_phase(plan: &Plan) -> bool
 pub fn certify(
     alloc: Global,
     case: &Case,
-    room: &mut CheckRoom,
+    room: &mut UpdateRoom,
 ) -> Result<OrderedEvidence, CertifyFault>
     requires { Fits case.now.task room.old }
     ensures evidence { IfOk result

@@ -5,5 +5,5 @@ mod certifying;
 mod evidence;
 mod refusal;
 
-pub use certifying::{certify, with_evidence};
+pub use certifying::{certify, certify_rounds, with_evidence};
 pub use refusal::{CertifyFault, Refusal};

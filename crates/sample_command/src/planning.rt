@@ -7,6 +7,7 @@ ghost use Rattle.update_model.specs.Remaining.{remaining_changes};
 ghost use Rattle.certificates.specs.Certified.{IsCertified, classes_for};
 ghost use Rattle.certificates.specs.Trees.{IsTreeUpdate};
 ghost use Rattle.certificates.specs.Valid.{IsValidPlan};
+ghost use Rattle.judged_classes.specs.Classed.{AreClassed};
 ghost use Rattle.table_difference.specs.SameClasses.{HasSameClasses};
 ghost use Rattle.round_planner.specs.Ends.{IsPlanOf};
 ghost use Rattle.command_base.specs.Judgements.{most_classes};
@@ -16,40 +17,33 @@ ghost use Rattle.round_planner.specs.Updates.{update_classes, update_count, upda
 
 use certificates::Plan;
 use command_base::UpdateFiles;
-use demands::Duties;
-use dest_classes::{ClassFault, ClassMap, class_map};
+use dest_classes::ClassFault;
+use judged_classes::Classed;
 use net_base::Memory;
 use plan_verdict::{PlanVerdict, plan_verdict};
 use round_planner::{Ordered, order, update_prefixes};
 use std::alloc::Global;
 
 /// The classes of an update that hasn't too many.
-fn few_classes(alloc: Global, files: &UpdateFiles) -> Result<ClassMap, Memory>
-    requires old { IsUserConfig files.now.net (rules_of_all files.now.old) }
-    requires new { IsUserConfig files.now.net (rules_of_all files.now.new) }
+fn few_classes(alloc: Global, files: &UpdateFiles) -> Result<Classed, Memory>
     requires few { update_count (meaning_of files.now) ≤ most_classes }
-    ensures { IfOk result (λ m. m ≡ update_classes (meaning_of files.now)) }
+    ensures { IfOk result (AreClassed (update_classes (meaning_of files.now)) files.now.demands) }
 {
     let prefixes = update_prefixes(&files.old, &files.new, &files.demands)?;
-    match class_map(alloc, &files.net, &prefixes) {
-        Ok(classes) => Ok(classes),
+    match Classed::make(alloc, &files.net, &files.demands, &prefixes) {
+        Ok(classed) => Ok(classed),
         Err(ClassFault::Memory) => Err(Memory),
         Err(ClassFault::TooManyClasses(_)) => unreachable!(),
     }
 }
 
 /// The ordered plan of an update of destination trees, whose search is never stuck, over its classes.
-fn searched_plan(
-    alloc: Global,
-    files: &UpdateFiles,
-    duties: &Duties,
-    classes: &ClassMap,
-) -> Result<Plan, Memory>
+fn searched_plan(alloc: Global, files: &UpdateFiles, classed: &Classed) -> Result<Plan, Memory>
     requires old { IsUserConfig files.now.net (rules_of_all files.now.old) }
     requires new { IsUserConfig files.now.net (rules_of_all files.now.new) }
     requires tree { IsTreeUpdate (bare_task (meaning_of files.now)) }
-    requires classes { classes.now ≡ update_classes (meaning_of files.now) }
-    requires duties { duties.now ≡ record { demands = files.now.demands; classes = classes.now } }
+    requires classed { AreClassed (update_classes (meaning_of files.now)) files.now.demands
+        classed.now }
     ensures searched { IfOk result
         (IsPlanOf (update_target (meaning_of files.now)) (rules_of_all files.now.old)) }
     ensures valid { IfOk result (IsValidPlan files.now.net) }
@@ -60,7 +54,14 @@ fn searched_plan(
     ensures count { IfOk result (λ p. length p.rounds
         ≡ length (remaining_changes (rules_of_all files.now.old) (rules_of_all files.now.new))) }
 {
-    match order(alloc, &files.net, &files.old, &files.new, duties, classes)? {
+    match order(
+        alloc,
+        &files.net,
+        &files.old,
+        &files.new,
+        &classed.duties,
+        &classed.map,
+    )? {
         Ordered::Rounds(plan) => Ok(plan),
         Ordered::Stuck(_) => unreachable!(),
     }
@@ -82,11 +83,9 @@ pub fn tree_plan(alloc: Global, files: &UpdateFiles) -> Result<Plan, Memory>
     ensures count { IfOk result (λ p. length p.rounds
         ≡ length (remaining_changes (rules_of_all files.now.old) (rules_of_all files.now.new))) }
 {
-    let classes = few_classes(alloc, files)?;
-    let duties = Duties::make(alloc, &files.net, &files.demands, &classes)?;
-    let plan = searched_plan(alloc, files, &duties, &classes);
-    drop(duties);
-    drop(classes);
+    let classed = few_classes(alloc, files)?;
+    let plan = searched_plan(alloc, files, &classed);
+    drop(classed);
     plan
 }
 
@@ -101,12 +100,14 @@ pub fn checked_classes(alloc: Global, files: &UpdateFiles, plan: &Plan) -> Resul
     ensures { IfOk result (λ n. n
         ≡ class_count (classes_for (task_for (meaning_of files.now) plan.now))) }
 {
-    match plan_verdict(alloc, files, plan)? {
-        PlanVerdict::Certified(room) => {
+    match plan_verdict(alloc, files, plan) {
+        Ok(PlanVerdict::Certified(room)) => {
             let classes = room.classes().count();
             drop(room);
             Ok(classes)
         }
-        PlanVerdict::Refused(_) => unreachable!(),
+        Ok(PlanVerdict::Refused(_, _)) => unreachable!(),
+        Err(ClassFault::TooManyClasses(_)) => unreachable!(),
+        Err(ClassFault::Memory) => Err(Memory),
     }
 }

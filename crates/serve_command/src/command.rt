@@ -24,7 +24,7 @@ use check_base::{CheckFiles, CheckNames, read_check_files};
 use command_base::{Exit, Reply, Status};
 use file_access::{Sink, Source, WriteFault, pour};
 use net_base::Memory;
-use plan_verdict::{PlanVerdict, plan_verdict};
+use plan_verdict::refusal_reply;
 use round_inverses::inverse_rounds;
 use round_inverses::laws::{
     each_takes_its_round_back, good_rounds_are_good_in_turn, inverses_are_in_range,
@@ -185,12 +185,9 @@ fn serve_files<S: Source, K: Sink>(
     ensures later_source { S.faults source.old ≤ S.faults source.new }
     ensures later_sink { K.faults sink.old ≤ K.faults sink.new }
 {
-    match plan_verdict(alloc, &files.update, &files.plan) {
-        Ok(PlanVerdict::Certified(room)) => {
-            drop(room);
-            serve_certified(alloc, source, sink, files)
-        }
-        Ok(PlanVerdict::Refused(reply)) => {
+    match refusal_reply(alloc, &files.update, &files.plan) {
+        Ok(None) => serve_certified(alloc, source, sink, files),
+        Ok(Some(reply)) => {
             let status = write_reply(sink, &reply);
             drop(reply);
             status

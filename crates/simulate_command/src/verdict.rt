@@ -14,7 +14,8 @@ ghost use Rattle.simulate_command.specs.Simulated.{IsSimulateAnswer};
 use crate::names::SimulateNames;
 use crate::simulation::simulation_text;
 use certificates::Plan;
-use command_base::{Reply, Status, UpdateFiles};
+use check_base::refused_reply;
+use command_base::{Reply, Status, UpdateFiles, no_classes_reply};
 use net_base::Memory;
 use plan_verdict::{PlanVerdict, plan_verdict};
 use std::alloc::Global;
@@ -34,8 +35,8 @@ pub fn simulation_verdict(
         (λ r. IsSimulateAnswer names.now.start names.now.count
         (record { update = meaning_of files.now; plan = plan.now }) (answer_of r)) }
 {
-    match plan_verdict(alloc, files, plan)? {
-        PlanVerdict::Certified(room) => {
+    match plan_verdict(alloc, files, plan) {
+        Ok(PlanVerdict::Certified(room)) => {
             let text = simulation_text(
                 alloc,
                 files,
@@ -50,6 +51,9 @@ pub fn simulation_verdict(
                 text: text?,
             })
         }
-        PlanVerdict::Refused(reply) => Ok(reply),
+        Ok(PlanVerdict::Refused(reason, class)) => {
+            refused_reply(alloc, &files.net, class, reason)
+        }
+        Err(fault) => no_classes_reply(alloc, fault),
     }
 }

@@ -12,17 +12,17 @@ use Rattle.certify_command.proofs.certifying.judge_rounds.Goals as goal
 pub named_class-class-requires : goal.named_class-class-requires
 named_class-class-requires c =
     let m : CheckMeaning = record { update = meaning_of c.args.files.now; plan = c.args.plan } in
-    let are = c.classes.ensures ∙ c.in-Err-Refused.ensures.fits.classes in
+    let are = c.in-Err-Refused.ensures.fits.classed.map in
     subst (λ classes. IfSome (class_of_cause c.in-Err-Refused.cause) (λ n. n < class_count classes)) (sym are)
     (cause_fits (case_in m) c.in-Err-Refused.cause (subst (OfRefusal (IsFirstRefusal (case_in m))) c.in-Err-Refused.field-0-is c.in-Err-Refused.ensures.refused))
 
 pub returns-in-Err-Refused : goal.returns-in-Err-Refused
 returns-in-Err-Refused c =
     let m : CheckMeaning = record { update = meaning_of c.args.files.now; plan = c.args.plan } in
-    let are = c.classes.ensures ∙ c.in-Err-Refused.ensures.fits.classes in
+    let are = c.in-Err-Refused.ensures.fits.classed.map in
     IfOk-weaker c.cause_reply.result _ _
     (λ r is. inr (inr (record {
-      few = c.requires.few;
+      few = c.requires.fits.classed.few;
       fails = subst (OfRefusal (λ _. ¬ IsCertifiable m)) c.in-Err-Refused.field-0-is c.in-Err-Refused.ensures.none;
       line = cause_line c.args.files.now.net c.named_class-class.result c.in-Err-Refused.cause;
       is_why = record {

@@ -11,8 +11,8 @@ returns-in_ok-to_vec-in-Nothing c =
     let t = task_for (meaning_of c.args.files.now) c.args.plan.now in
     inr (record {
       none =
-          none_of (rollout t) c.duties-duties.result.now.demands t.update.demands c.classes-classes.result.now (classes_for t)
-          (ap (λ (d : ClassDuties). d.demands) (c.duties-duties.ensures ∙ c.requires.fits.duties)) (c.classes-classes.ensures ∙ c.requires.fits.classes)
+          none_of (rollout t) c.args.room.now.classed.duties.demands t.update.demands c.args.room.now.classed.map (classes_for t)
+          (ap (λ (d : ClassDuties). d.demands) c.requires.fits.classed.duties) c.requires.fits.classed.map
           (rw c.in-Nothing.is at c.in_ok-events.ensures.answer);
       text_is = search rules;
     })

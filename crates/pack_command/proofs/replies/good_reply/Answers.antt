@@ -11,7 +11,7 @@ returns c =
     let u : Update = meaning_of c.args.files.now in
     IfOk-weaker c.found_reply.result _ _
     (λ r said. inr (record {
-      few = c.requires.ends.few;
+      few = c.requires.ends.classed.few;
       good = c.requires.ends.good;
       found = said;
       tree = λ tree. packs_in_few c.trees_are_never_stuck.ensures c.trees_take_few_rounds.ensures u c.keeps_rules.ensures c.requires.old c.requires.new tree c.args.kind (answer_of r) said;

@@ -1,6 +1,13 @@
 use Rattle.command_base.specs.Updates.{meaning_of}
-use Rattle.round_planner.proofs.UpdateLaws.{covered}
+use Rattle.plan_command.proofs.NewPlanLaws.{good_ends, broken_end, break_fits}
 use Rattle.plan_command.proofs.ends.judge_classes.Goals as goal
 
-pub make-requires : goal.make-requires
-make-requires c = covered (meaning_of c.args.files.now) c.args.classes c.requires.classes
+pub class-class-requires : goal.class-class-requires
+class-class-requires c = break_fits (meaning_of c.args.files.now) c.args.classed c.requires.classed c.in-Some.end c.in-Some.ensures.some
+
+pub returns-in-Some : goal.returns-in-Some
+returns-in-Some c =
+    broken_end (meaning_of c.args.files.now) c.args.classed c.requires.classed c.in-Some.end c.class-class.result c.in-Some.ensures.some c.in-Some.ensures.fails c.class-class.ensures.is
+
+pub returns-in-None : goal.returns-in-None
+returns-in-None c = good_ends (meaning_of c.args.files.now) c.args.classed c.requires.classed c.in-None.ensures.none

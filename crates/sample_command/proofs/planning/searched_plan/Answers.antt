@@ -8,13 +8,13 @@ use Rattle.sample_command.proofs.planning.searched_plan.Goals as goal
 
 pub order-requires-clause-old_good : goal.order-requires-clause-old_good
 order-requires-clause-old_good c =
-    good_back (meaning_of c.args.files.now) c.args.classes.now c.requires.classes c.args.duties.now c.requires.duties (rules_of_all c.args.files.now.old) c.requires.tree.old_good
+    good_back (meaning_of c.args.files.now) c.args.classed.now.map c.requires.classed.map c.args.classed.now.duties c.requires.classed.duties (rules_of_all c.args.files.now.old) c.requires.tree.old_good
 
 pub order-requires-clause-new_good : goal.order-requires-clause-new_good
 order-requires-clause-new_good c =
-    good_back (meaning_of c.args.files.now) c.args.classes.now c.requires.classes c.args.duties.now c.requires.duties (rules_of_all c.args.files.now.new) c.requires.tree.new_good
+    good_back (meaning_of c.args.files.now) c.args.classed.now.map c.requires.classed.map c.args.classed.now.duties c.requires.classed.duties (rules_of_all c.args.files.now.new) c.requires.tree.new_good
 
 pub unreachable-requires : goal.unreachable-requires
 unreachable-requires c =
     subst (λ (o : Ordered). IsNotStuck o) c.in-Stuck.is
-    (c.in_ok-plan.ensures.tree (tree_for (meaning_of c.args.files.now) c.args.duties.now c.args.classes.now c.requires.duties c.requires.tree))
+    (c.in_ok-plan.ensures.tree (tree_for (meaning_of c.args.files.now) c.args.classed.now.duties c.args.classed.now.map c.requires.classed.duties c.requires.tree))
