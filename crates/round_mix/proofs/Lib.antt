@@ -17,6 +17,7 @@ pub mod PriorityLaws
 pub mod OutLaws
 pub mod TriedLaws
 pub mod NextLaws
+pub mod BackLaws
 pub mod MadeLaws
 pub mod PickedLaws
 pub mod AmongLaws

@@ -31,7 +31,7 @@ found_last (d ∷ ds) c r none named =
     ] none
 
 -- for a rule that it doesn't name nothing changes
-found_before : (before : List Change) (c : Change) (r : Rule) → key_eq (key_named c) r.key ≡ false → change_of (before ++ c ∷ []) r ≡ change_of before r
+pub found_before : (before : List Change) (c : Change) (r : Rule) → key_eq (key_named c) r.key ≡ false → change_of (before ++ c ∷ []) r ≡ change_of before r
 found_before [] c r other = cond-false (key_eq (key_named c) r.key) (Some c) None other
 found_before (d ∷ ds) c r other = ap (λ (o : Option Change). cond (key_eq (key_named d) r.key) (Some d) o) (found_before ds c r other)
 

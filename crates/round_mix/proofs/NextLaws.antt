@@ -1,5 +1,5 @@
 -- One change more over what is prepared for others.
-use Rattle.std.proofs.Common.{◌≡◌, ℕ, zero, suc, ◌+◌, ◌≤◌, true, false, List, [], ◌∷◌, ◌++◌, map, length, refl, sym, ◌∙◌, subst, ap, arith, append_assoc}
+use Rattle.std.proofs.Common.{◌≡◌, ℕ, zero, suc, ◌+◌, ◌≤◌, ◌<◌, true, false, List, [], ◌∷◌, ◌++◌, map, length, refl, sym, ◌∙◌, subst, ap, arith, append_assoc}
 use Rattle.std.specs.Prelude.{Bool, slice_get, slice_set, Option, Some, None, IfSome, IsSomeAnd, IsPermutation}
 use Rattle.std.specs.List.{AllByRecursion}
 use Rattle.std.specs.Option.{option_map_or}
@@ -48,7 +48,7 @@ inserted_push (Insert s r ∷ cs) c = ap (λ (rs : List Rule). r ∷ rs) (insert
 inserted_push (Delete s r ∷ cs) c = inserted_push cs c
 inserted_push (Replace s r ∷ cs) c = inserted_push cs c
 
-all_push : (table : List Rule) (cs : List Change) (c : Change) → all_rules table (cs ++ c ∷ []) ≡ all_rules table cs ++ inserted_rules (c ∷ [])
+pub all_push : (table : List Rule) (cs : List Change) (c : Change) → all_rules table (cs ++ c ∷ []) ≡ all_rules table cs ++ inserted_rules (c ∷ [])
 all_push table cs c = ap (λ (rs : List Rule). table ++ rs) (inserted_push cs c) ∙ sym (append_assoc table (inserted_rules cs) (inserted_rules (c ∷ [])))
 
 -- no change is found for a key that none names
@@ -145,7 +145,7 @@ module _ (table : List Rule) (cs : List Change) (marks : List MarkedRule) (is_ta
         ∙ ap (λ (x : MarkedRule). marked_rules table cs ++ x ∷ []) one in
         record {
           good = good;
-          clear = clear_all table next is_table good (subst IsClear (sym whole) (clear_more all marks r (clear_of table cs prepared.clear) apart));
+          clear = clear_all table next is_table good (subst IsClear (sym whole) (clear_more all r (clear_of table cs prepared.clear) apart));
           rules = subst (λ (xs : List MarkedRule). IsPermutation xs (put_in m marks)) (sym same)
               (IsPermutation-push_more (marked_rules table cs) marks (put_in m marks) m prepared.rules (put_moved m marks));
           falling = put_falling m marks prepared.falling;
@@ -234,7 +234,7 @@ few_more (Some a) (Some b) None i n few more = absurd more
 few_more (Some a) (Some b) (Some d) i n few more = omega arith
 
 pub room_next : (first old : Option (List MarkedRule)) (count before room i : ℕ) → i + 1 ≤ count → before ≤ room → IsSomeAnd first (λ a. length a + count ≤ before)
-    → IfSome first (λ a. IsSomeAnd old (λ b. length b ≤ length a + i)) → IsSomeAnd old (λ b. length b + 1 ≤ room)
+    → IfSome first (λ a. IsSomeAnd old (λ b. length b ≤ length a + i)) → IsSomeAnd old (λ b. length b < room)
 room_next None old count before room i less more fits few = absurd fits
 room_next (Some a) None count before room i less more fits few = absurd few
 room_next (Some a) (Some b) count before room i less more fits few = omega arith

@@ -1,40 +1,37 @@
--- One change over what is prepared for a table alone, and given up.
-use Rattle.std.proofs.Common.{◌≡◌, ℕ, ◌+◌, ◌≤◌, true, false, cond, not, List, [], ◌∷◌, ◌++◌, map, length, refl, sym, ◌∙◌, subst, ap, inl, inr, arith}
-use Rattle.std.specs.Prelude.{◌==◌, filter, nat_lt, Bool, Option, Some, None, IfSome, IsSomeAnd, IsPermutation}
-use Rattle.std.specs.Option.{option_map_or}
+-- What is prepared while changes are tried, given up and made.
+use Rattle.std.proofs.Common.{◌≡◌, ℕ, ◌≤◌, true, false, cond, not, List, [], ◌∷◌, ◌++◌, map, length, refl, sym, ◌∙◌, subst, ap, inl, inr, arith}
+use Rattle.std.specs.Prelude.{◌==◌, filter, nat_lt, Bool, Some, None, IfSome, IsSomeAnd, IsPermutation}
 use Rattle.std.specs.List.{AllByRecursion}
-use Rattle.std.proofs.lemmas.Bool.{cond-true, cond-false, both_ways, not_from_false, false≢true, ltb-true, ltb-false, and_parts, and_from, eqb-true, eq-eqb}
-use Rattle.std.proofs.lemmas.List.{append-nil, length-map}
-use Rattle.std.proofs.lemmas.List.Elements.{filter-append}
+use Rattle.std.proofs.lemmas.Bool.{cond-true, both_ways, not_from_false, ltb-true, ltb-false, and_parts, and_from, eqb-true, eq-eqb}
+use Rattle.std.proofs.lemmas.List.{length-map}
 use Rattle.std.proofs.lemmas.List.Filters.{length-filter_both}
-use Rattle.std.proofs.lemmas.List.Sorted.{IsPermutation-map, IsPermutation-sym, IsPermutation-refl, IsPermutation-trans, IsPermutation-cons, IsPermutation-middle, IsPermutation-push_more, length_permutation}
+use Rattle.std.proofs.lemmas.List.Sorted.{IsPermutation-map, IsPermutation-sym, IsPermutation-refl, IsPermutation-trans, IsPermutation-cons, IsPermutation-middle}
 use Rattle.net_base.specs.Members.{IsIn, IsDistinct, IsSubsequence}
-use Rattle.net_base.proofs.ListLaws.{distinct_members, any_in, in_from_any}
-use Rattle.net_base.proofs.MemberLaws.{in_append_left, in_append_right, in_append_cases, in_map, in_from_map, each_from_in, each_weaker, each_filter, each_map, each_from_map, same_filter, in_permutation}
+use Rattle.net_base.proofs.ListLaws.{distinct_members}
+use Rattle.net_base.proofs.MemberLaws.{in_append_cases, each_from_in, each_weaker, each_filter, each_map, each_from_map, same_filter, in_permutation}
 use Rattle.flow_rules.specs.Patterns.{key_eq}
 use Rattle.flow_rules.specs.Overlaps.{IsClash, keys_clash, patterns_meet}
 use Rattle.flow_rules.specs.Tables.{keys_of, IsTable, IsClear}
 use Rattle.flow_rules.specs.declared.rules.Key.{Key}
 use Rattle.flow_rules.specs.declared.rules.Rule.{Rule}
-use Rattle.flow_rules.proofs.DistinctLaws.{keys_moved, flips}
+use Rattle.flow_rules.proofs.DistinctLaws.{keys_moved}
 use Rattle.flow_rules.proofs.OverlapLaws.{meet_in, meet_out}
-use Rattle.flow_rules.proofs.KeyLaws.{key_eq-refl, key_ne}
-use Rattle.update_model.specs.Changes.{AppliesTo, rules_after}
+use Rattle.flow_rules.proofs.KeyLaws.{key_ne}
+use Rattle.update_model.specs.Changes.{rules_after}
 use Rattle.update_model.specs.Mixtures.{is_insert, is_delete}
 use Rattle.update_model.specs.declared.Change.{Change}
 use Rattle.update_model.specs.declared.Change.TheVariants.{Insert, Delete, Replace}
-use Rattle.update_model.proofs.ChangeLaws.{key_named}
 use Rattle.update_model.proofs.MadeLaws.{distinct_some}
 use Rattle.update_model.proofs.MatchLaws.{some_filter}
-use Rattle.round_mix.specs.Marks.{mark_by, marked_rule, all_rules, marked_rules, rules_of}
+use Rattle.round_mix.specs.Marks.{marked_rule, all_rules, marked_rules, rules_of}
 use Rattle.round_mix.specs.Named.{with_mark}
 use Rattle.round_mix.specs.Prepared.{AreGood, AreClear, IsFalling, IsPrepared}
-use Rattle.round_mix.specs.Tried.{settled_mark, rule_after, put_in, marked_where, marks_without, is_refused, tried_marks, given_up, settled_where, kept_marks}
+use Rattle.round_mix.specs.Tried.{settled_mark, rule_after, put_in, marked_where, marks_without, given_up, settled_where, kept_marks}
 use Rattle.round_mix.specs.Nearest.{patterns_in}
 use Rattle.round_mix.specs.declared.Mark.{Mark}
 use Rattle.round_mix.specs.declared.Mark.TheVariants.{Sure, Possible, Replaced}
 use Rattle.round_mix.specs.declared.MarkedRule.{MarkedRule}
-use Rattle.round_mix.proofs.ClearLaws.{clear_from_free, rules_of-marked, keys_apart}
+use Rattle.round_mix.proofs.ClearLaws.{clear_from_free, rules_of-marked}
 use Rattle.round_mix.proofs.MarkLaws.{marked_from, all_mixed}
 
 -- distinct lists of the same members
@@ -127,12 +124,6 @@ clear_none table clear mixed mixture h a b i j = clear h a b (there a i) (there 
     there : (r : Rule) → IsIn r mixed → IsIn r table
     there r k = subst (λ cs. IsIn r (rules_after cs table)) (none mixture.made mixture.some) ((mixture.same r).0 k)
 
--- a table alone
-alone_of : (table rs : List Rule) → IsClear table → IsPermutation table rs → IsFalling (map (marked_rule []) rs) → IsPrepared table [] (map (marked_rule []) rs)
-alone_of table rs clear moved falling =
-    prepared_of table [] rs (record { applies = tt; distinct = tt }) (clear_none table clear)
-    (subst (λ (xs : List Rule). IsPermutation xs rs) (sym (append-nil table)) moved) falling
-
 -- priorities alone decide the order
 pub falling_by : (f g : Rule → MarkedRule) → ((q : Rule) → (g q).rule.key.priority ≡ (f q).rule.key.priority) → (rs : List Rule) → IsFalling (map f rs) → IsFalling (map g rs)
 falling_by f g same [] h = tt
@@ -156,74 +147,9 @@ pub remap : {A B C : Type 0} (f : A → B) (t : B → C) (g : A → C) → ((x :
 remap f t g same [] = refl
 remap f t g same (x ∷ xs) = ap (λ y. y ∷ map t (map f xs)) (same x) ∙ ap (λ ys. g x ∷ ys) (remap f t g same xs)
 
--- the mark by one change
-by_one : (c : Change) (q : Rule) (b : Bool) → key_eq (key_named c) q.key ≡ b → marked_rule (c ∷ []) q ≡ cond b (with_mark q (mark_by c)) (with_mark q Sure)
-by_one c q true e = ap (λ (o : Option Change). with_mark q (option_map_or mark_by o Sure)) (cond-true (key_eq (key_named c) q.key) (Some c) None e)
-by_one c q false e = ap (λ (o : Option Change). with_mark q (option_map_or mark_by o Sure)) (cond-false (key_eq (key_named c) q.key) (Some c) None e)
-
--- a change that inserts nothing
-module _ (table : List Rule) (c : Change) (none : all_rules table (c ∷ []) ≡ all_rules table []) (is_table : IsTable table) (marks : List MarkedRule) where
-  put : IsPrepared table [] marks → AppliesTo table c → IsPrepared table (c ∷ []) (marked_where (key_named c) (mark_by c) marks)
-  put prepared applies =
-      let rs = rules_of marks in
-      let same = marks_are table [] marks prepared in
-      let good : AreGood table (c ∷ []) = record { applies = (applies, tt); distinct = (λ i. i, tt) } in
-      let is : marked_where (key_named c) (mark_by c) marks ≡ map (marked_rule (c ∷ [])) rs =
-      ap (marked_where (key_named c) (mark_by c)) same
-      ∙ remap (marked_rule []) (λ m. cond (key_eq (key_named c) m.rule.key) (with_mark m.rule (mark_by c)) m) (marked_rule (c ∷ [])) (λ q. sym (by_one c q (key_eq (key_named c) q.key) refl)) rs in
-      subst (IsPrepared table (c ∷ [])) (sym is)
-      (prepared_of table (c ∷ []) rs good (clear_all table (c ∷ []) is_table good (subst IsClear (sym none) (clear_of table [] prepared.clear)))
-      (subst (λ (xs : List Rule). IsPermutation xs rs) (sym none) (rules_moved table [] marks prepared))
-      (falling_by (marked_rule []) (marked_rule (c ∷ [])) (λ q. refl) rs (subst IsFalling same prepared.falling)))
-
-  back : IsPrepared table (c ∷ []) marks → IsPrepared table [] (marked_where (key_named c) Sure marks)
-  back prepared =
-      let rs = rules_of marks in
-      let same = marks_are table (c ∷ []) marks prepared in
-      let here : (q : Rule) (b : Bool) → key_eq (key_named c) q.key ≡ b → cond b (with_mark q Sure) (marked_rule (c ∷ []) q) ≡ with_mark q Sure = here_at in
-      let is : marked_where (key_named c) Sure marks ≡ map (marked_rule []) rs =
-      ap (marked_where (key_named c) Sure) same
-      ∙ remap (marked_rule (c ∷ [])) (λ m. cond (key_eq (key_named c) m.rule.key) (with_mark m.rule Sure) m) (marked_rule []) (λ q. here q (key_eq (key_named c) q.key) refl) rs in
-      let whole : all_rules table (c ∷ []) ≡ table = none ∙ append-nil table in
-      subst (IsPrepared table []) (sym is)
-      (alone_of table rs (subst IsClear whole (clear_of table (c ∷ []) prepared.clear))
-      (subst (λ (xs : List Rule). IsPermutation xs rs) whole (rules_moved table (c ∷ []) marks prepared))
-      (falling_by (marked_rule (c ∷ [])) (marked_rule []) (λ q. refl) rs (subst IsFalling same prepared.falling)))
-    where
-      here_at : (q : Rule) (b : Bool) → key_eq (key_named c) q.key ≡ b → cond b (with_mark q Sure) (marked_rule (c ∷ []) q) ≡ with_mark q Sure
-      here_at q true e = refl
-      here_at q false e = by_one c q false e
-
 -- the rule that a replace puts in the place of that with its key
 abbrev pub replaced : Rule → Rule → Rule
 replaced r q = cond (key_eq q.key r.key) r q
-
--- the rule of the change's key is taken out
-left_out : (c : Change) (rs : List Rule) → marks_without (key_named c) (map (marked_rule (c ∷ [])) rs) ≡ map (marked_rule []) (filter (λ q. not (key_eq q.key (key_named c))) rs)
-left_out c [] = refl
-left_out c (q ∷ rs) =
-    let p = λ (r : Rule). not (key_eq r.key (key_named c)) in
-    elim (key_eq q.key (key_named c)) as (λ b. key_eq q.key (key_named c) ≡ b
-    → cond (not b) (marked_rule (c ∷ []) q ∷ marks_without (key_named c) (map (marked_rule (c ∷ [])) rs)) (marks_without (key_named c) (map (marked_rule (c ∷ [])) rs))
-    ≡ map (marked_rule []) (cond (not b) (q ∷ filter p rs) (filter p rs))) [
-      | true ↦ λ e. left_out c rs
-      | false ↦ λ e. ap (λ (m : MarkedRule). m ∷ marks_without (key_named c) (map (marked_rule (c ∷ [])) rs)) (by_one c q false (flips (key_named c) q.key ∙ e))
-          ∙ ap (λ (ms : List MarkedRule). with_mark q Sure ∷ ms) (left_out c rs)
-    ] refl
-
--- the table is then what is left
-out : (table after : List Rule) (c : Change) (marks : List MarkedRule) → IsTable table → filter (λ q. not (key_eq q.key (key_named c))) (all_rules table (c ∷ [])) ≡ after
-    → IsClear after → IsPrepared table (c ∷ []) marks → IsPrepared after [] (marks_without (key_named c) marks)
-out table after c marks is_table left clear prepared =
-    let rs = rules_of marks in
-    let p = λ (r : Rule). not (key_eq r.key (key_named c)) in
-    let all = all_rules table (c ∷ []) in
-    let is : marks_without (key_named c) marks ≡ map (marked_rule []) (filter p rs) = ap (marks_without (key_named c)) (marks_are table (c ∷ []) marks prepared) ∙ left_out c rs in
-    subst (IsPrepared after []) (sym is)
-    (alone_of after (filter p rs) clear
-    (subst (λ (xs : List Rule). IsPermutation xs (filter p rs)) left
-    (filter_moved p all rs (keys_apart table (c ∷ []) is_table prepared.good) (rules_moved table (c ∷ []) marks prepared)))
-    (subst IsFalling is (falling_filter (λ m. not (key_eq m.rule.key (key_named c))) marks prepared.falling)))
 
 -- a rule of a new key stays alone
 pub others_stay : (k : Key) (rs : List Rule) → ¬ IsIn k (keys_of rs) → filter (λ q. not (key_eq q.key k)) rs ≡ rs
@@ -265,15 +191,6 @@ put_falling m (n ∷ ns) h =
           (each_put (λ x. x.rule.key.priority ≤ n.rule.key.priority) m ns (omega arith) h.0, put_falling m ns h.1)
     ] refl
 
--- the marks where one rule is inserted
-marked_insert : (c : Change) (r : Rule) (table : List Rule) → key_named c ≡ r.key → mark_by c ≡ Possible → ¬ IsIn r.key (keys_of table)
-    → map (marked_rule (c ∷ [])) (table ++ r ∷ []) ≡ map (marked_rule []) (table ++ []) ++ with_mark r Possible ∷ []
-marked_insert c r [] named mark absent =
-    ap (λ (m : MarkedRule). m ∷ []) (by_one c r true (subst (λ k. key_eq (key_named c) k ≡ true) named (key_eq-refl (key_named c))) ∙ ap (with_mark r) mark)
-marked_insert c r (q ∷ table) named mark absent =
-    ap (λ (m : MarkedRule). m ∷ map (marked_rule (c ∷ [])) (table ++ r ∷ [])) (by_one c q false (key_ne (key_named c) q.key (λ e. absent (inl (sym named ∙ e)))))
-    ∙ ap (λ (ms : List MarkedRule). with_mark q Sure ∷ ms) (marked_insert c r table named mark (λ i. absent (inr i)))
-
 -- keys clash exactly where the rules do
 pub clash_from : (a b : Rule) → keys_clash a.key b.key ≡ true → IsClash a b
 clash_from a b e =
@@ -286,92 +203,26 @@ clash_to a b clash =
     and_from (a.key.priority == b.key.priority) (patterns_meet a.key.pattern b.key.pattern) (eq-eqb a.key.priority b.key.priority clash.priority)
     (meet_out a.key.pattern b.key.pattern clash.header clash.first clash.second)
 
-module _ (table : List Rule) (marks : List MarkedRule) where
-  -- the rules of a table that is prepared alone are those of the marked ones
-  to_marks : IsPrepared table [] marks → (q : Rule) → IsIn q table → (m : MarkedRule) × IsIn m marks × (q ≡ m.rule)
-  to_marks prepared q i =
-      in_from_map (λ (m : MarkedRule). m.rule) q marks (in_permutation (rules_of marks) (all_rules table []) q
-      (IsPermutation-sym (all_rules table []) (rules_of marks) (rules_moved table [] marks prepared)) (in_append_left q table [] i))
-
-  from_marks : IsPrepared table [] marks → (m : MarkedRule) → IsIn m marks → IsIn m.rule table
-  from_marks prepared m i =
-      subst (IsIn m.rule) (append-nil table)
-      (in_permutation (all_rules table []) (rules_of marks) m.rule (rules_moved table [] marks prepared) (in_map (λ (n : MarkedRule). n.rule) m marks i))
-
-  alone_clear : IsPrepared table [] marks → IsClear table
-  alone_clear prepared = subst IsClear (append-nil table) (clear_of table [] prepared.clear)
-
-  -- with a rule that clashes with none of a clear table it is clear
-  pub clear_more : (r : Rule) → IsClear table → ((q : Rule) → IsIn q table → ¬ IsClash q r) → IsClear (table ++ r ∷ [])
-  clear_more r clear apart h a b i j over_a over_b same =
-      elim (in_append_cases a table (r ∷ []) i) [
-        | inl k ↦ elim (in_append_cases b table (r ∷ []) j) [
-          | inl l ↦ clear h a b k l over_a over_b same
-          | inr (inl e) ↦ absurd (apart a k (subst (IsClash a) e (record { priority = same; header = h; first = over_a; second = over_b })))
-          | inr (inr none) ↦ absurd none
-        ]
-        | inr (inl e) ↦ elim (in_append_cases b table (r ∷ []) j) [
-          | inl l ↦ absurd (apart b l (subst (IsClash b) e (record { priority = sym same; header = h; first = over_b; second = over_a })))
-          | inr (inl f) ↦ e ∙ sym f
-          | inr (inr none) ↦ absurd none
-        ]
+-- with a rule that clashes with none of a clear table it is clear
+pub clear_more : (table : List Rule) (r : Rule) → IsClear table → ((q : Rule) → IsIn q table → ¬ IsClash q r) → IsClear (table ++ r ∷ [])
+clear_more table r clear apart h a b i j over_a over_b same =
+    elim (in_append_cases a table (r ∷ []) i) [
+      | inl k ↦ elim (in_append_cases b table (r ∷ []) j) [
+        | inl l ↦ clear h a b k l over_a over_b same
+        | inr (inl e) ↦ absurd (apart a k (subst (IsClash a) e (record { priority = same; header = h; first = over_a; second = over_b })))
         | inr (inr none) ↦ absurd none
       ]
-
-  -- a change that isn't refused is prepared
-  pub begun : (c : Change) → IsTable table → AppliesTo table c → IsPrepared table [] marks → is_refused c marks ≡ false → IsPrepared table (c ∷ []) (tried_marks c marks)
-  begun (Insert s r) is_table applies prepared free =
-      let c = Insert s r in
-      let m = with_mark r Possible in
-      let good : AreGood table (c ∷ []) = record { applies = (applies, tt); distinct = (λ i. i, tt) } in
-      let apart : (q : Rule) → IsIn q table → ¬ IsClash q r = λ q i clash.
-      let (n, j, e) = to_marks prepared q i in
-      both_ways (is_refused c marks) free (any_in (λ x. keys_clash x.rule.key r.key) n marks j (clash_to n.rule r (subst (λ x. IsClash x r) e clash))) in
-      record {
-        good = good;
-        clear = clear_all table (c ∷ []) is_table good (clear_more r (alone_clear prepared) apart);
-        rules = subst (λ (xs : List MarkedRule). IsPermutation xs (put_in m marks)) (sym (marked_insert c r table refl refl applies))
-            (IsPermutation-push_more (marked_rules table []) marks (put_in m marks) m prepared.rules (put_moved m marks));
-        falling = put_falling m marks prepared.falling;
-      }
-  begun (Delete s r) is_table applies prepared free = put table (Delete s r) refl is_table marks prepared applies
-  begun (Replace s r) is_table applies prepared free = put table (Replace s r) refl is_table marks prepared applies
-
-  -- one that is refused makes a mixture unclear
-  pub refused : (c : Change) → AppliesTo table c → IsPrepared table [] marks → is_refused c marks ≡ true → ¬ AreClear table (c ∷ [])
-  refused (Insert s r) applies prepared clash clear =
-      let (m, i, e) = in_from_any (λ x. keys_clash x.rule.key r.key) marks clash in
-      let at = clash_from m.rule r e in
-      let k = from_marks prepared m i in
-      let same : m.rule ≡ r = clear_of table (Insert s r ∷ []) clear at.header m.rule r (in_append_left m.rule table (r ∷ []) k) (in_append_right r table (r ∷ []) (inl refl)) at.first at.second at.priority in
-      applies (subst (λ (x : Rule). IsIn x.key (keys_of table)) same (in_map (λ (x : Rule). x.key) m.rule table k))
-  refused (Delete s r) applies prepared clash clear = false≢true clash
-  refused (Replace s r) applies prepared clash clear = false≢true clash
-
-  -- what is given up is prepared for the table alone
-  pub returned : (c : Change) → IsTable table → IsPrepared table (c ∷ []) marks → IsPrepared table [] (given_up c marks)
-  returned (Insert s r) is_table prepared =
-      let p = λ (q : Rule). not (key_eq q.key r.key) in
-      let last : filter p (r ∷ []) ≡ [] = ap (λ b. cond (not b) (r ∷ []) []) (key_eq-refl r.key) in
-      let left : filter p (table ++ r ∷ []) ≡ table =
-      filter-append p table (r ∷ []) ∙ ap (λ (xs : List Rule). filter p table ++ xs) last ∙ append-nil (filter p table) ∙ others_stay r.key table prepared.good.applies.0 in
-      out table table (Insert s r) marks is_table left
-      (λ h a b i j. clear_of table (Insert s r ∷ []) prepared.clear h a b (in_append_left a table (r ∷ []) i) (in_append_left b table (r ∷ []) j)) prepared
-  returned (Delete s r) is_table prepared = back table (Delete s r) refl is_table marks prepared
-  returned (Replace s r) is_table prepared = back table (Replace s r) refl is_table marks prepared
+      | inr (inl e) ↦ elim (in_append_cases b table (r ∷ []) j) [
+        | inl l ↦ absurd (apart b l (subst (IsClash b) e (record { priority = sym same; header = h; first = over_b; second = over_a })))
+        | inr (inl f) ↦ e ∙ sym f
+        | inr (inr none) ↦ absurd none
+      ]
+      | inr (inr none) ↦ absurd none
+    ]
 
 -- so few entries are needed
 without_few : (k : Key) (ms : List MarkedRule) → length (marks_without k ms) ≤ length ms
 without_few k ms = let both = length-filter_both (λ (m : MarkedRule). not (key_eq m.rule.key k)) (λ m. not (not (key_eq m.rule.key k))) (λ m. refl) ms in omega arith
-
-pub tried_few : (c : Change) (ms : List MarkedRule) → length (tried_marks c ms) ≤ length ms + 1
-tried_few (Insert s r) ms = let e = length_permutation (with_mark r Possible ∷ ms) (put_in (with_mark r Possible) ms) (put_moved (with_mark r Possible) ms) in omega arith
-tried_few (Delete s r) ms = let e = length-map ms (λ (m : MarkedRule). cond (key_eq r.key m.rule.key) (with_mark m.rule Possible) m) in omega arith
-tried_few (Replace s r) ms = let e = length-map ms (λ (m : MarkedRule). cond (key_eq r.key m.rule.key) (with_mark m.rule (Replaced r.action)) m) in omega arith
-
-pub begun_few : (c : Change) (old new : List MarkedRule) (b : Bool) → (b ≡ true → new ≡ tried_marks c old) → (b ≡ false → new ≡ old) → length new ≤ length old + 1
-begun_few c old new true on off = subst (λ (ms : List MarkedRule). length ms ≤ length old + 1) (sym (on refl)) (tried_few c old)
-begun_few c old new false on off = let same = ap length (off refl) in omega arith
 
 pub given_few : (c : Change) (ms : List MarkedRule) → length (given_up c ms) ≤ length ms
 given_few (Insert s r) ms = without_few r.key ms
@@ -395,11 +246,7 @@ pub carried_few : (ready : Bool) (old new : List MarkedRule) (bound : ℕ → �
 carried_few true old new bound few = few
 carried_few false old new bound few = tt
 
-pub not-false : (b : Bool) → not b ≡ false → b ≡ true
-not-false true e = refl
-not-false false e = absurd (false≢true (sym e))
-
--- a change that isn't an insert leaves the patterns where they are while it is tried, and once it is given up
+-- a change that isn't an insert leaves the patterns where they are once it is given up
 module _ (f : MarkedRule → MarkedRule) (same : (m : MarkedRule) → (f m).rule.key.pattern ≡ m.rule.key.pattern) where
   map_patterns : (ms : List MarkedRule) → patterns_in (map f ms) ≡ patterns_in ms
   map_patterns [] = refl
@@ -424,11 +271,6 @@ settled_patterns k ms = map_patterns (λ m. cond (key_eq k m.rule.key) (settled_
     by true m = settled_pattern m.mark m.rule
     by false m = refl
 
-pub tried_patterns : (c : Change) (ms : List MarkedRule) → is_insert c ≡ false → patterns_in (tried_marks c ms) ≡ patterns_in ms
-tried_patterns (Insert s r) ms off = absurd (both_ways true off refl)
-tried_patterns (Delete s r) ms off = marked_patterns r.key Possible ms
-tried_patterns (Replace s r) ms off = marked_patterns r.key (Replaced r.action) ms
-
 pub given_patterns : (c : Change) (ms : List MarkedRule) → is_insert c ≡ false → patterns_in (given_up c ms) ≡ patterns_in ms
 given_patterns (Insert s r) ms off = absurd (both_ways true off refl)
 given_patterns (Delete s r) ms off = marked_patterns r.key Sure ms
@@ -440,11 +282,7 @@ kept_patterns (Insert s r) ms off = settled_patterns r.key ms
 kept_patterns (Delete s r) ms off = absurd (both_ways true off refl)
 kept_patterns (Replace s r) ms off = settled_patterns r.key ms
 
-pub begun_patterns : (c : Change) (old new : List MarkedRule) (b : Bool) → (b ≡ true → new ≡ tried_marks c old) → (b ≡ false → new ≡ old) → is_insert c ≡ false → patterns_in new ≡ patterns_in old
-begun_patterns c old new true on off stays = ap patterns_in (on refl) ∙ tried_patterns c old stays
-begun_patterns c old new false on off stays = ap patterns_in (off refl)
-
--- the marked rules stay in descending priority while a change is tried, once it is given up and once it is made
+-- the marked rules stay in descending priority once a change is given up and once it is made
 module _ (f : MarkedRule → MarkedRule) (same : (m : MarkedRule) → (f m).rule.key.priority ≡ m.rule.key.priority) where
   falling_map : (ms : List MarkedRule) → IsFalling ms → IsFalling (map f ms)
   falling_map [] h = tt
@@ -473,15 +311,6 @@ settled_falling k ms h = falling_map (λ m. cond (key_eq k m.rule.key) (settled_
     by : (b : Bool) (m : MarkedRule) → (cond b (settled_mark m) m).rule.key.priority ≡ m.rule.key.priority
     by true m = settled_priority m.mark m.rule
     by false m = refl
-
-tried_falling : (c : Change) (ms : List MarkedRule) → IsFalling ms → IsFalling (tried_marks c ms)
-tried_falling (Insert s r) ms h = put_falling (with_mark r Possible) ms h
-tried_falling (Delete s r) ms h = marked_falling r.key Possible ms h
-tried_falling (Replace s r) ms h = marked_falling r.key (Replaced r.action) ms h
-
-pub begun_falling : (c : Change) (old new : List MarkedRule) (b : Bool) → (b ≡ true → new ≡ tried_marks c old) → (b ≡ false → new ≡ old) → IsFalling old → IsFalling new
-begun_falling c old new true on off h = subst IsFalling (sym (on refl)) (tried_falling c old h)
-begun_falling c old new false on off h = subst IsFalling (sym (off refl)) h
 
 pub given_falling : (c : Change) (ms : List MarkedRule) → IsFalling ms → IsFalling (given_up c ms)
 given_falling (Insert s r) ms h = falling_filter (λ m. not (key_eq m.rule.key r.key)) ms h

@@ -1,5 +1,5 @@
 -- The changes of a round, each with the rule that it names.
-use Rattle.std.specs.Prelude.{◌≡◌, ℕ, Bool, true, List, map, slice_get, slice_set, Some}
+use Rattle.std.specs.Prelude.{◌≡◌, ℕ, Bool, true, false, List, map, slice_get, slice_set, Some}
 use Rattle.std.specs.List.{AllByRecursion}
 use Rattle.net_base.specs.Members.{IsIn, IsDistinct}
 use Rattle.flow_rules.specs.Patterns.{key_eq}
@@ -26,6 +26,10 @@ IsNamed rules c = (r : Rule) × IsIn r rules × (names c r ≡ true)
 -- a rule with a mark
 abbrev pub with_mark : Rule → Mark → MarkedRule
 with_mark r m = record { rule = r; mark = m }
+
+-- the change names none of the marked rules that are sure
+abbrev pub IsUnnamed : Change → List MarkedRule → Type 0
+IsUnnamed c marks = (m : MarkedRule) → IsIn m marks → m.mark ≡ Sure → names c m.rule ≡ false
 
 -- the rule at the position is sure and named by the change
 pub record IsPlaceOf (c : Change) (marks : List MarkedRule) (i : ℕ) : Type 0 where

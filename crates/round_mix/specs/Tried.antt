@@ -1,5 +1,5 @@
 -- Changes over what is prepared, one by one: what becomes of the marked rules.
-use Rattle.std.specs.Prelude.{◌≡◌, ◌==◌, ℕ, Bool, false, cond, not, nat_lt, List, [], ◌∷◌, map, filter}
+use Rattle.std.specs.Prelude.{◌≡◌, ◌==◌, ℕ, Bool, true, false, cond, not, nat_lt, List, [], ◌∷◌, map, filter}
 use Rattle.std.specs.List.{list_any}
 use Rattle.flow_rules.specs.Patterns.{key_eq}
 use Rattle.flow_rules.specs.Overlaps.{keys_clash}
@@ -7,7 +7,7 @@ use Rattle.flow_rules.specs.declared.rules.Key.{Key}
 use Rattle.flow_rules.specs.declared.rules.Rule.{Rule}
 use Rattle.update_model.specs.declared.Change.{Change}
 use Rattle.update_model.specs.declared.Change.TheVariants.{Insert, Delete, Replace}
-use Rattle.round_mix.specs.Named.{with_mark, IsMarkedBy}
+use Rattle.round_mix.specs.Named.{with_mark, IsMarkedBy, IsUnnamed}
 use Rattle.round_mix.specs.declared.Mark.{Mark}
 use Rattle.round_mix.specs.declared.Mark.TheVariants.{Sure, Possible, Replaced}
 use Rattle.round_mix.specs.declared.MarkedRule.{MarkedRule}
@@ -43,19 +43,7 @@ put_in m (n ∷ ns) = cond (nat_lt n.rule.key.priority m.rule.key.priority) (m �
 abbrev pub clashes_with : Key → List MarkedRule → Bool
 clashes_with k marks = list_any (λ m. keys_clash m.rule.key k) marks
 
--- whether the change inserts a rule that clashes with one of the marked rules
-abbrev pub is_refused : Change → List MarkedRule → Bool
-is_refused (Insert s r) marks = clashes_with r.key marks
-is_refused (Delete s r) marks = false
-is_refused (Replace s r) marks = false
-
--- the marked rules while a change is tried
-abbrev pub tried_marks : Change → List MarkedRule → List MarkedRule
-tried_marks (Insert s r) marks = put_in (with_mark r Possible) marks
-tried_marks (Delete s r) marks = marked_where r.key Possible marks
-tried_marks (Replace s r) marks = marked_where r.key (Replaced r.action) marks
-
--- and once it is given up
+-- the marked rules once a change is given up
 abbrev pub given_up : Change → List MarkedRule → List MarkedRule
 given_up (Insert s r) marks = marks_without r.key marks
 given_up (Delete s r) marks = marked_where r.key Sure marks
@@ -76,3 +64,9 @@ abbrev pub IsTriedNext : Change → List MarkedRule → List MarkedRule → Type
 IsTriedNext (Insert s r) old new = (clashes_with r.key old ≡ false) × (new ≡ put_in (with_mark r Possible) old)
 IsTriedNext (Delete s r) old new = IsMarkedBy (Delete s r) old new
 IsTriedNext (Replace s r) old new = IsMarkedBy (Replace s r) old new
+
+-- it can't be: an insert clashes with one of the rules, and none that is sure is named by another
+abbrev pub IsRefusedNext : Change → List MarkedRule → Type 0
+IsRefusedNext (Insert s r) marks = clashes_with r.key marks ≡ true
+IsRefusedNext (Delete s r) marks = IsUnnamed (Delete s r) marks
+IsRefusedNext (Replace s r) marks = IsUnnamed (Replace s r) marks

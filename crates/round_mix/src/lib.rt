@@ -6,7 +6,7 @@ ghost use Rattle.std.specs.Option.{ForSome};
 ghost use Rattle.path_walk.specs.Outcomes.{action_outcome, header_at};
 ghost use Rattle.flow_rules.specs.Tables.{IsTable};
 ghost use Rattle.round_mix.specs.Faults.{AreUnclear, IsAmbiguous, IsFault, IsMixRefusal};
-ghost use Rattle.update_model.specs.Changes.{AppliesTo, rules_after, rules_after_change};
+ghost use Rattle.update_model.specs.Changes.{rules_after, rules_after_change};
 ghost use Rattle.update_model.specs.Mixtures.{entries_needed, is_insert, is_delete};
 ghost use Rattle.round_mix.specs.Marks.{all_rules};
 ghost use Rattle.round_mix.specs.Found.{AreAllOutcomes};
@@ -43,7 +43,7 @@ use std::alloc::Global;
 use std::marker::Model;
 use table_index::Index;
 use topology::Net;
-use tried::{make, take_back, try_change, try_next};
+use tried::{make, take_back, try_next};
 use update_model::Change;
 
 /// In which mixtures a rule stands: in all, in some, or in all with its action or another.
@@ -491,31 +491,12 @@ impl Mixed {
         MixFault::Ambiguous(i, j)
     }
 
-    /// Prepares a switch that is prepared for a table alone for one change of it, where every mixture is clear, and says
-    /// whether it is. Where one isn't, what is prepared stays. It looks at each prepared rule, and takes no memory.
-    pub fn begin(&mut self, change: &Change) -> bool
-        requires { IsSomeAnd self.old.prepared (λ marks. length marks < self.old.room) }
-        ensures yes { (table : List Rule) → IsTable table → AppliesTo table change.now
-            → IsSomeAnd self.old.prepared (IsPrepared table [])
-            → result ≡ true → IsSomeAnd self.new.prepared (IsPrepared table (change.now ∷ [])) }
-        ensures no { (table : List Rule) → AppliesTo table change.now
-            → IsSomeAnd self.old.prepared (IsPrepared table [])
-            → result ≡ false → ¬ AreClear table (change.now ∷ []) }
-        ensures same { result ≡ false → self.new.prepared ≡ self.old.prepared }
-        ensures few { IfSome self.old.prepared
-            (λ old. IsSomeAnd self.new.prepared (λ marks. length marks ≤ length old + 1)) }
-        ensures room { self.old.room ≤ self.new.room }
-    {
-        self.aimed = None;
-        self.is_indexed = stays_indexed(self.is_indexed, change.is_insert());
-        try_change(&mut self.rules, change)
-    }
-
-    /// Prepares a switch that is prepared for one change of a table for the table alone again.
+    /// Prepares a switch that is prepared for changes of a table for those before the last one. It looks at each prepared rule,
+    /// and takes no memory.
     pub fn give_up(&mut self, change: &Change)
-        ensures alone { (table : List Rule) → IsTable table
-            → IsSomeAnd self.old.prepared (IsPrepared table (change.now ∷ []))
-            → IsSomeAnd self.new.prepared (IsPrepared table []) }
+        ensures before { (table : List Rule) (changes : List Change) → IsTable table
+            → IsSomeAnd self.old.prepared (IsPrepared table (changes ++ change.now ∷ []))
+            → IsSomeAnd self.new.prepared (IsPrepared table changes) }
         ensures few { IfSome self.old.prepared
             (λ old. IsSomeAnd self.new.prepared (λ marks. length marks ≤ length old)) }
         ensures room { self.old.room ≤ self.new.room }
@@ -545,13 +526,19 @@ impl Mixed {
     }
 
     /// Prepares a switch for one change more than those of a table for which it is prepared, if that is good behind them and
-    /// every mixture is clear. If it isn't, what is prepared stays.
-    fn begin_next(&mut self, change: &Change) -> bool
-        requires { IsSomeAnd self.old.prepared (λ marks. length marks + 1 ≤ self.old.room) }
+    /// every mixture is clear, and says whether it is. If it isn't, what is prepared stays. It looks at each prepared rule, and
+    /// takes no memory.
+    pub fn begin(&mut self, change: &Change) -> bool
+        requires { IsSomeAnd self.old.prepared (λ marks. length marks < self.old.room) }
         ensures yes { (table : List Rule) (changes : List Change) → IsTable table
             → IsSomeAnd self.old.prepared (IsPrepared table changes)
             → result ≡ true
             → IsSomeAnd self.new.prepared (IsPrepared table (changes ++ change.now ∷ [])) }
+        ensures no { (table : List Rule) (changes : List Change)
+            → IsSomeAnd self.old.prepared (IsPrepared table changes)
+            → result ≡ false → AreGood table (changes ++ change.now ∷ [])
+            → ¬ AreClear table (changes ++ change.now ∷ []) }
+        ensures same { result ≡ false → self.new.prepared ≡ self.old.prepared }
         ensures few { IfSome self.old.prepared
             (λ old. IsSomeAnd self.new.prepared (λ marks. length marks ≤ length old + 1)) }
         ensures room { self.old.room ≤ self.new.room }
@@ -575,7 +562,7 @@ impl Mixed {
         ensures room { self.old.room ≤ self.new.room }
     {
         for change in changes {
-            if !self.begin_next(change) {
+            if !self.begin(change) {
                 self.is_prepared = false;
                 return false;
             }

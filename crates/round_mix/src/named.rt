@@ -1,10 +1,10 @@
 //! Many changes of one switch: each marks the rule that it names, which is looked up among the sorted ones.
-ghost use Rattle.std.specs.Prelude.{◌≡◌, ◌<◌, ◌≤◌, [], true, false, IsTrue, IfSome, length, vec_capacity};
+ghost use Rattle.std.specs.Prelude.{◌≡◌, ◌<◌, ◌≤◌, [], true, false, None, IsTrue, IfNone, IfSome, length, vec_capacity};
 ghost use Rattle.std.specs.List.{AllByRecursion};
 ghost use Rattle.net_base.specs.Members.{IsDistinct};
 ghost use Rattle.flow_rules.specs.Tables.{keys_of};
 ghost use Rattle.round_mix.specs.Marks.{all_rules, rules_of};
-ghost use Rattle.round_mix.specs.Named.{names, IsPlaceOf, IsMarkedBy, AreMarked};
+ghost use Rattle.round_mix.specs.Named.{names, IsPlaceOf, IsMarkedBy, IsUnnamed, AreMarked};
 ghost use Rattle.round_mix.specs.Prepared.{IsFalling, IsPrepared};
 
 use crate::apart::sort_apart;
@@ -46,6 +46,8 @@ fn place_of(marks: &[MarkedRule], change: &Change) -> Option<usize>
 fn is_named(marked: &MarkedRule, change: &Change) -> bool
     ensures sure { IsTrue result → marked.now.mark ≡ Mark.Sure }
     ensures named { IsTrue result → names change.now marked.now.rule ≡ true }
+    ensures both { result ≡ false → marked.now.mark ≡ Mark.Sure
+        → names change.now marked.now.rule ≡ false }
 {
     matches!(marked.mark, Mark::Sure) && names(change, &marked.rule)
 }
@@ -54,10 +56,13 @@ fn is_named(marked: &MarkedRule, change: &Change) -> bool
 /// priority.
 fn seek(marks: &[MarkedRule], change: &Change) -> Option<usize>
     requires { IsFalling marks.now }
-    ensures { IfSome result (IsPlaceOf change.now marks.now) }
+    ensures found { IfSome result (IsPlaceOf change.now marks.now) }
+    ensures none { IfNone result (IsUnnamed change.now marks.now) }
 {
     let priority = change.rule().key.priority;
-    for i in first_of(marks, priority)..end_of(marks, priority) {
+    let from = first_of(marks, priority);
+    let to = end_of(marks, priority);
+    for i in from..to {
         if is_named(&marks[i], change) {
             return Some(i);
         }
@@ -70,6 +75,7 @@ fn mark_at(marks: &mut Vec<MarkedRule>, place: Option<usize>, change: &Change) -
     requires { IfSome place (IsPlaceOf change.now marks.old.items) }
     ensures marked { IsTrue result → IsMarkedBy change.now marks.old.items marks.new.items }
     ensures no { result ≡ false → marks.new.items ≡ marks.old.items }
+    ensures none { result ≡ false → place ≡ None }
     ensures room { vec_capacity marks.new ≡ vec_capacity marks.old }
 {
     let Some(i) = place else {
@@ -93,6 +99,7 @@ pub fn mark_named(marks: &mut Vec<MarkedRule>, change: &Change) -> bool
     requires { IsFalling marks.old.items }
     ensures marked { IsTrue result → IsMarkedBy change.now marks.old.items marks.new.items }
     ensures no { result ≡ false → marks.new.items ≡ marks.old.items }
+    ensures none { result ≡ false → IsUnnamed change.now marks.old.items }
     ensures room { vec_capacity marks.new ≡ vec_capacity marks.old }
 {
     let place = seek(marks, change);

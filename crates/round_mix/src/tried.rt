@@ -3,7 +3,7 @@ ghost use Rattle.std.specs.Prelude.{◌≡◌, ◌<◌, ◌≤◌, true, false, 
 ghost use Rattle.flow_rules.specs.Patterns.{key_eq};
 ghost use Rattle.round_mix.specs.Named.{with_mark};
 ghost use Rattle.round_mix.specs.Prepared.{IsFalling};
-ghost use Rattle.round_mix.specs.Tried.{settled_mark, put_in, marked_where, settled_where, marks_without, is_refused, tried_marks, given_up, kept_marks, clashes_with, IsTriedNext};
+ghost use Rattle.round_mix.specs.Tried.{settled_mark, put_in, marked_where, settled_where, marks_without, given_up, kept_marks, clashes_with, IsTriedNext, IsRefusedNext};
 
 use crate::named::mark_named;
 use crate::priorities::{end_of, first_of, of_priority};
@@ -145,34 +145,13 @@ fn put_free(marks: &mut Vec<MarkedRule>, rule: &Rule) -> bool
     true
 }
 
-/// Marks the rule that a change names, or puts the one that it inserts, unless that clashes with another.
-pub fn try_change(marks: &mut Vec<MarkedRule>, change: &Change) -> bool
-    requires falling { IsFalling marks.old.items }
-    requires room { vec_len marks.old < vec_capacity marks.old }
-    ensures yes { result ≡ true → marks.new.items ≡ tried_marks change.now marks.old.items }
-    ensures no { result ≡ false → marks.new.items ≡ marks.old.items }
-    ensures is { result ≡ not (is_refused change.now marks.old.items) }
-    ensures room { vec_capacity marks.old ≤ vec_capacity marks.new }
-{
-    match change {
-        Change::Insert(_, rule) => put_free(marks, rule),
-        Change::Delete(_, rule) => {
-            mark_key(marks, &rule.key, Mark::Possible);
-            true
-        }
-        Change::Replace(_, rule) => {
-            mark_key(marks, &rule.key, Mark::Replaced(rule.action));
-            true
-        }
-    }
-}
-
 /// Marks the rule that a change more names, if it is sure, or puts the one that it inserts, unless that clashes with another.
 pub fn try_next(marks: &mut Vec<MarkedRule>, change: &Change) -> bool
     requires falling { IsFalling marks.old.items }
     requires room { vec_len marks.old < vec_capacity marks.old }
     ensures yes { result ≡ true → IsTriedNext change.now marks.old.items marks.new.items }
     ensures no { result ≡ false → marks.new.items ≡ marks.old.items }
+    ensures never { result ≡ false → IsRefusedNext change.now marks.old.items }
     ensures room { vec_capacity marks.old ≤ vec_capacity marks.new }
 {
     match change {

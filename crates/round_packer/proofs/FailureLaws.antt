@@ -35,7 +35,7 @@ use Rattle.class_watch.proofs.StandLaws.{alike_walks, alike_safe}
 use Rattle.table_difference.specs.Targets.{Target}
 use Rattle.packed_rounds.specs.Packing.{CanStand}
 use Rattle.round_mix.proofs.RoundLaws.{within_good}
-use Rattle.round_trials.proofs.FitLaws.{at_more}
+use Rattle.round_tables.proofs.FitLaws.{at_more}
 use Rattle.round_packer.specs.declared.failing.Failure.{Failure}
 use Rattle.round_packer.specs.Kept.{HoldsClass, IsFailing, change_eq, unmet_failures}
 use Rattle.round_packer.specs.Filling.{HasFailed}

@@ -30,7 +30,7 @@ use Rattle.class_watch.specs.Walks.{at_rest, meets}
 use Rattle.class_watch.specs.Alike.{covering_changes, AreAlike}
 use Rattle.class_watch.proofs.StandLaws.{alike_walks, alike_safe, safe_after, held_after}
 use Rattle.table_difference.specs.Targets.{Target}
-use Rattle.round_trials.proofs.FitLaws.{at_more, part_longer}
+use Rattle.round_tables.proofs.FitLaws.{at_more, part_longer}
 use Rattle.round_packer.specs.Kept.{HoldsClass, IsKeptSafe}
 
 -- where no change covers a header, none of them is among those that do

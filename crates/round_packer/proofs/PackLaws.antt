@@ -7,7 +7,7 @@ use Rattle.net_base.specs.Members.{IsIn}
 use Rattle.net_base.proofs.MemberLaws.{each_at, each_from_in, each_get_or}
 use Rattle.net_base.specs.declared.ids.SwitchId.{SwitchId}
 use Rattle.topology.specs.Networks.{Network, switch_count}
-use Rattle.flow_rules.specs.Tables.{rules_at}
+use Rattle.flow_rules.specs.Tables.{rules_at, rules_of_all}
 use Rattle.flow_rules.specs.declared.rules.Rule.{Rule}
 use Rattle.update_model.specs.Changes.{rule_of, tables_after, IsGoodRound}
 use Rattle.update_model.specs.Remaining.{remaining_changes}
@@ -24,7 +24,9 @@ use Rattle.path_walk.specs.UserConfigs.{IsUserConfig}
 use Rattle.table_difference.specs.Targets.{Target}
 use Rattle.packed_rounds.specs.Packing.{CanStand, IsFilled, IsPackedRound, ArePacked, PacksOrdered, PacksStuck, tables_past}
 use Rattle.packed_rounds.proofs.Packed.{packed_part, part_made, some_more}
-use Rattle.round_trials.specs.Filling.{TrialState, IsTrial}
+use Rattle.round_tables.specs.PreparedTables.{PreparedState}
+use Rattle.round_tables.specs.Filling.{AreTaken}
+use Rattle.round_tables.proofs.StepLaws.{count_rules}
 use Rattle.round_judge.specs.Goals.{HasAtoms}
 use Rattle.update_model.proofs.HeldLaws.{each_tables_after}
 use Rattle.round_packer.specs.declared.failing.Failure.{Failure}
@@ -65,8 +67,8 @@ past_more : (rounds : List (List Change)) (round : List Change) (old : List (Lis
 past_more [] round old = refl
 past_more (first ∷ rounds) round old = past_more rounds round (tables_after first old)
 
-module _ (to : Target) (new_unique : AllUnique to.new) (old : List (List Rule)) (rounds : List (List Change)) (p : TrialState) (came : List ℕ) (looked : List Bool)
-    (at : IsPackedTo to old rounds p came looked) (q : TrialState) (now : List ℕ) (marks : List Bool)
+module _ (to : Target) (new_unique : AllUnique to.new) (old : List (List Rule)) (rounds : List (List Change)) (p : PreparedState) (came : List ℕ) (looked : List Bool)
+    (at : IsPackedTo to old rounds p came looked) (q : PreparedState) (now : List ℕ) (marks : List Bool)
     (filled : IsFilledBy to (tables_past rounds old) [] (remaining_changes (tables_past rounds old) to.new) q now marks) where
   abbrev tables : List (List Rule)
   tables = tables_past rounds old
@@ -75,16 +77,16 @@ module _ (to : Target) (new_unique : AllUnique to.new) (old : List (List Rule)) 
   round = filled.round
 
   good : IsGoodRound tables round
-  good = subst (λ (ts : List (List Rule)). IsGoodRound ts round) filled.filling.tables_are (subst (IsGoodRound q.tables) filled.filling.round_is filled.filling.trial_is.fit.good)
+  good = subst (λ (ts : List (List Rule)). IsGoodRound ts round) filled.filling.tables_are (subst (IsGoodRound (rules_of_all q.tables)) filled.filling.round_is filled.filling.taken.fit.good)
 
-  made_is : (t : TrialState) → t.tables ≡ tables_after q.round q.tables → t.tables ≡ tables_after round tables
-  made_is t is = is ∙ ap (λ (cs : List Change). tables_after cs q.tables) filled.filling.round_is ∙ ap (tables_after round) filled.filling.tables_are
+  made_is : (t : PreparedState) → rules_of_all t.tables ≡ tables_after q.round (rules_of_all q.tables) → rules_of_all t.tables ≡ tables_after round tables
+  made_is t is = is ∙ ap (λ (cs : List Change). tables_after cs (rules_of_all q.tables)) filled.filling.round_is ∙ ap (tables_after round) filled.filling.tables_are
 
   some_taken : q.round ≢ [] → round ≢ []
   some_taken some none = some (filled.filling.round_is ∙ none)
 
   -- the round is made
-  pub packed_next : q.round ≢ [] → (t : TrialState) → IsTrial to.net t → t.tables ≡ tables_after q.round q.tables → t.round ≡ [] → (all : List (List Change)) → all ≡ rounds ++ q.round ∷ []
+  pub packed_next : q.round ≢ [] → (t : PreparedState) → AreTaken to.net t → rules_of_all t.tables ≡ tables_after q.round (rules_of_all q.tables) → t.round ≡ [] → (all : List (List Change)) → all ≡ rounds ++ q.round ∷ []
       → IsPackedTo to old all t now marks
   packed_next some t trial tables_are none all all_is =
       let made = part_made to.new new_unique tables at.unique round (packed_part to tables round filled.filled) in
@@ -92,7 +94,7 @@ module _ (to : Target) (new_unique : AllUnique to.new) (old : List (List Rule)) 
       let past : tables_past (rounds ++ round ∷ []) old ≡ tables_after round tables = past_more rounds round old in
       let filling : IsFilling to (tables_after round tables) [] t now marks =
       record {
-        trial_is = trial;
+        taken = trial;
         tables_are = made_is t tables_are;
         round_is = none;
         rules = each_tables_after (λ r. KeepsVlan r.action) round tables filled.filling.rules filled.filling.changes;
@@ -119,7 +121,7 @@ module _ (to : Target) (new_unique : AllUnique to.new) (old : List (List Rule)) 
       (subst (λ (cs : List Change). AllByRecursion (HasFailed to tables cs) fs) (sym is) failed))
 
   -- and fewer remain
-  pub fewer_left : q.round ≢ [] → (t : TrialState) → t.tables ≡ tables_after q.round q.tables → length (remaining_changes t.tables to.new) < length (remaining_changes tables to.new)
+  pub fewer_left : q.round ≢ [] → (t : PreparedState) → rules_of_all t.tables ≡ tables_after q.round (rules_of_all q.tables) → length (remaining_changes (rules_of_all t.tables) to.new) < length (remaining_changes tables to.new)
   fewer_left some t tables_are =
       let made = part_made to.new new_unique tables at.unique round (packed_part to tables round filled.filled) in
       let count = remaining_made to.new new_unique tables at.unique round made.made in
@@ -136,7 +138,7 @@ module _ (to : Target) (new_unique : AllUnique to.new) (old : List (List Rule)) 
   }
 
 -- nothing remains: packing ends ordered
-pub ordered_here : (to : Target) (old : List (List Rule)) (rounds : List (List Change)) (p : TrialState) (came : List ℕ) (looked : List Bool) → IsPackedTo to old rounds p came looked
+pub ordered_here : (to : Target) (old : List (List Rule)) (rounds : List (List Change)) (p : PreparedState) (came : List ℕ) (looked : List Bool) → IsPackedTo to old rounds p came looked
     → (left : List Change) → left ≡ remaining_changes (tables_past rounds old) to.new → left ≡ [] → PacksOrdered to old rounds
 ordered_here to old rounds p came looked at left is none = record { packed = at.packed; none_remains = sym is ∙ none }
 
@@ -163,8 +165,8 @@ ends_unsafe to old unsafe left is false empty some = record {
 
 -- ---- what remains, as it is listed
 
-module _ (to : Target) (old : List (List Rule)) (rounds : List (List Change)) (p : TrialState) (came : List ℕ) (looked : List Bool) (at : IsPackedTo to old rounds p came looked) (left : List Change)
-    (left_is : left ≡ remaining_changes p.tables to.new) where
+module _ (to : Target) (old : List (List Rule)) (rounds : List (List Change)) (p : PreparedState) (came : List ℕ) (looked : List Bool) (at : IsPackedTo to old rounds p came looked) (left : List Change)
+    (left_is : left ≡ remaining_changes (rules_of_all p.tables) to.new) where
   pub left_remains : left ≡ remaining_changes (tables_past rounds old) to.new
   left_remains = left_is ∙ ap (λ (ts : List (List Rule)). remaining_changes ts to.new) at.filling.tables_are
 
@@ -172,21 +174,21 @@ module _ (to : Target) (old : List (List Rule)) (rounds : List (List Change)) (p
   plain_left keeps_new =
       subst (AllByRecursion (IsPlain to.net)) (sym left_remains)
       (plain_remaining to.net (tables_past rounds old) to.new at.filling.rules keeps_new
-      (subst (λ (ts : List (List Rule)). length ts ≡ switch_count to.net) at.filling.tables_are at.filling.trial_is.space.tables))
+      (subst (λ (ts : List (List Rule)). length ts ≡ switch_count to.net) at.filling.tables_are (count_rules p.tables ∙ at.filling.taken.ready.fit.tables)))
 
-  pub filled_left : (q : TrialState) (now : List ℕ) (marks : List Bool) → IsFilledBy to (tables_past rounds old) [] left q now marks
+  pub filled_left : (q : PreparedState) (now : List ℕ) (marks : List Bool) → IsFilledBy to (tables_past rounds old) [] left q now marks
       → IsFilledBy to (tables_past rounds old) [] (remaining_changes (tables_past rounds old) to.new) q now marks
   filled_left q now marks = subst (λ (cs : List Change). IsFilledBy to (tables_past rounds old) [] cs q now marks) left_remains
 
 -- before the first round
-pub packed_first : (to : Target) (p : TrialState) (came : List ℕ) (looked : List Bool) → IsTrial to.net p → p.round ≡ [] → IsUserConfig to.net p.tables → AreKept to p.tables [] came
-    → HasAtoms to.classes looked → (rounds : List (List Change)) → rounds ≡ [] → IsPackedTo to p.tables rounds p came looked
+pub packed_first : (to : Target) (p : PreparedState) (came : List ℕ) (looked : List Bool) → AreTaken to.net p → p.round ≡ [] → IsUserConfig to.net (rules_of_all p.tables) → AreKept to (rules_of_all p.tables) [] came
+    → HasAtoms to.classes looked → (rounds : List (List Change)) → rounds ≡ [] → IsPackedTo to (rules_of_all p.tables) rounds p came looked
 packed_first to p came looked trial none user kept atoms rounds is =
-    subst (λ (rs : List (List Change)). IsPackedTo to p.tables rs p came looked) (sym is)
+    subst (λ (rs : List (List Change)). IsPackedTo to (rules_of_all p.tables) rs p came looked) (sym is)
     (record {
       packed = tt;
-      filling = record { trial_is = trial; tables_are = refl; round_is = none; rules = tables_keep to.net p.tables user; changes = tt; kept = kept; atoms = atoms };
-      unique = λ s. unique_in_table (rules_at p.tables s) (user.distinct s);
+      filling = record { taken = trial; tables_are = refl; round_is = none; rules = tables_keep to.net (rules_of_all p.tables) user; changes = tt; kept = kept; atoms = atoms };
+      unique = λ s. unique_in_table (rules_at (rules_of_all p.tables) s) (user.distinct s);
     })
 
 -- ---- whether a list is empty, as it is told

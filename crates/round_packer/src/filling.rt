@@ -10,7 +10,7 @@ use crate::judging::{TriedChange, failure_beside};
 use class_watch::{ClassWatch, LookedAtoms};
 use net_base::Memory;
 use round_judge::Goal;
-use round_trials::RoundTrial;
+use round_tables::PreparedTables;
 use std::alloc::Global;
 use update_model::Change;
 
@@ -19,7 +19,7 @@ use update_model::Change;
 fn try_change(
     alloc: Global,
     goal: &Goal,
-    trial: &mut RoundTrial,
+    trial: &mut PreparedTables,
     watch: &mut ClassWatch,
     looked: &mut LookedAtoms,
     change: &Change,
@@ -34,7 +34,6 @@ fn try_change(
         → IsFilling goal.now tables round trial.old watch.old.came.items looked.old
         → IfSome failure (HasFailed goal.now tables round)) }
 {
-    goal.net.keeps_rules();
     if !trial.take(alloc, goal.net, change)? {
         return Ok(None);
     }
@@ -46,7 +45,7 @@ fn try_change(
     };
     match failure_beside(goal, watch, &tried, looked)? {
         Some(failure) => {
-            trial.leave_last(alloc, goal.net, change)?;
+            trial.leave(goal.net, change);
             Ok(Some(failure))
         }
         None => Ok(None),
@@ -58,7 +57,7 @@ fn try_change(
 pub(crate) fn fill(
     alloc: Global,
     goal: &Goal,
-    trial: &mut RoundTrial,
+    trial: &mut PreparedTables,
     watch: &mut ClassWatch,
     looked: &mut LookedAtoms,
     left: &RemainingChanges,

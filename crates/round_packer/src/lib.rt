@@ -34,12 +34,12 @@ pub enum Packing {
 /// and some evidence keeps every class safe. It ends stuck where something remains and none of it can be made.
 ///
 /// A try of a change looks once at each atom of addresses, at each change that the round took so far, and at each class whose
-/// address the change's prefix holds; it prepares the change's switch, and takes one walk for each class that the change
-/// covers, by its address and VLAN, at a switch that its walks come to, up to the first that isn't safe. Those that enter at
-/// the change's switch come first. A change that failed for a class can't stand until a round makes a change that covers the
-/// class, by its address and VLAN, at a switch that its mixed walks came to then, and isn't tried before: for that each failure
-/// that is known is compared with each change of a round. Each round tries each other change that remains once, and prepares
-/// each switch once.
+/// address the change's prefix holds; it looks three times at most at each rule of the change's switch, and takes one walk for
+/// each class that the change covers, by its address and VLAN, at a switch that its walks come to, up to the first that isn't
+/// safe. Those that enter at the change's switch come first. A change that failed for a class can't stand until a round makes a
+/// change that covers the class, by its address and VLAN, at a switch that its mixed walks came to then, and isn't tried
+/// before: for that each failure that is known is compared with each change of a round. Each round tries each other change that
+/// remains once, and is made by a look at each rule of a switch for each change there.
 pub fn pack(
     alloc: Global,
     net: &Net,

@@ -7,7 +7,7 @@ ghost use Rattle.dest_classes.specs.Classes.{class_count};
 ghost use Rattle.update_model.specs.Changes.{tables_after};
 ghost use Rattle.update_model.specs.Remaining.{remaining_changes};
 ghost use Rattle.table_difference.specs.Targets.{Target};
-ghost use Rattle.round_trials.specs.Filling.{IsTrial};
+ghost use Rattle.round_tables.specs.Filling.{AreTaken};
 ghost use Rattle.round_judge.specs.Goals.{HasAtoms};
 ghost use Rattle.round_packer.specs.Filling.{EndsAt, IsPackedTo};
 ghost use Rattle.round_packer.specs.Ends.{IsPacking};
@@ -20,7 +20,7 @@ use class_watch::{ClassWatch, LookedAtoms};
 use flow_rules::Config;
 use net_base::Memory;
 use round_judge::{Goal, watch_rooms};
-use round_trials::RoundTrial;
+use round_tables::PreparedTables;
 use std::alloc::Global;
 use table_difference::remaining;
 use update_model::{Change, Rounds};
@@ -29,24 +29,26 @@ use update_model::{Change, Rounds};
 fn keep_round(
     alloc: Global,
     goal: &Goal,
-    trial: &mut RoundTrial,
+    trial: &mut PreparedTables,
     rounds: &mut Rounds,
 ) -> Result<(), Memory>
-    requires { IsTrial goal.now.net trial.old }
+    requires { AreTaken goal.now.net trial.old }
     ensures rounds { OnOk result (rounds.new ≡ rounds.old ++ trial.old.round ∷ []) }
     ensures tables { OnOk result
-        (trial.new.tables ≡ tables_after trial.old.round trial.old.tables) }
+        (rules_of_all trial.new.tables
+        ≡ tables_after trial.old.round (rules_of_all trial.old.tables)) }
     ensures none { OnOk result (trial.new.round ≡ []) }
-    ensures trial { OnOk result (IsTrial goal.now.net trial.new) }
+    ensures trial { OnOk result (AreTaken goal.now.net trial.new) }
 {
     rounds.push_round(Vec::from_slice(alloc, trial.round())?)?;
-    trial.make_round(alloc, goal.net)
+    trial.make_round(goal.net)
 }
 
 /// The changes that remain from the tables on.
-fn left_of(alloc: Global, goal: &Goal, trial: &RoundTrial) -> Result<Vec<Change>, Memory>
-    requires { IsTrial goal.now.net trial.now }
-    ensures { IfOk result (λ left. left.items ≡ remaining_changes trial.now.tables goal.now.new) }
+fn left_of(alloc: Global, goal: &Goal, trial: &PreparedTables) -> Result<Vec<Change>, Memory>
+    requires { AreTaken goal.now.net trial.now }
+    ensures { IfOk result (λ left. left.items
+        ≡ remaining_changes (rules_of_all trial.now.tables) goal.now.new) }
 {
     goal.net.keeps_rules();
     remaining(alloc, trial.tables(), goal.new)
@@ -56,7 +58,7 @@ fn left_of(alloc: Global, goal: &Goal, trial: &RoundTrial) -> Result<Vec<Change>
 fn pack_rounds(
     alloc: Global,
     goal: &Goal,
-    trial: &mut RoundTrial,
+    trial: &mut PreparedTables,
     watch: &mut ClassWatch,
     looked: &mut LookedAtoms,
     rounds: &mut Rounds,
@@ -90,18 +92,18 @@ fn pack_rounds(
 fn pack_from(
     alloc: Global,
     goal: &Goal,
-    trial: &mut RoundTrial,
+    trial: &mut PreparedTables,
     watch: &mut ClassWatch,
     looked: &mut LookedAtoms,
     rounds: &mut Rounds,
 ) -> Result<bool, Memory>
-    requires trial { IsTrial goal.now.net trial.old }
+    requires trial { AreTaken goal.now.net trial.old }
     requires none { trial.old.round ≡ [] }
-    requires old { IsUserConfig goal.now.net trial.old.tables }
+    requires old { IsUserConfig goal.now.net (rules_of_all trial.old.tables) }
     requires came { length watch.old.came.items ≡ class_count goal.now.classes }
     requires atoms { HasAtoms goal.now.classes looked.old }
     requires rounds { rounds.old ≡ [] }
-    ensures { IfOk result (EndsAt goal.now trial.old.tables rounds.new) }
+    ensures { IfOk result (EndsAt goal.now (rules_of_all trial.old.tables) rounds.new) }
 {
     goal.keeps_rules();
     if all_safe(alloc, goal, watch, trial.mixes())? {
@@ -130,7 +132,7 @@ pub(crate) fn packing_of(alloc: Global, goal: &Goal, old: &Config) -> Result<Pac
 {
     let mut rounds = Rounds::make(alloc)?;
     let (mut looked, mut watch) = watch_rooms(alloc, goal.classes)?;
-    let mut trial = RoundTrial::make(alloc, goal.net, old)?;
+    let mut trial = PreparedTables::for_trials(alloc, goal.net, old)?;
     let ended = pack_from(
         alloc,
         goal,

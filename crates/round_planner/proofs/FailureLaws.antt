@@ -23,7 +23,7 @@ use Rattle.mixed_walks.specs.Walks.{TablesKeepVlans}
 use Rattle.mixed_walks.proofs.PlaceLaws.{on_walk_vlan}
 use Rattle.round_tables.specs.PreparedTables.{PreparedState}
 use Rattle.round_tables.specs.Trials.{single, HasRoomAlone, IsBetweenTrials}
-use Rattle.round_tables.proofs.TrialLaws.{changes_here, changes_there}
+use Rattle.round_tables.proofs.StepLaws.{changes_here, changes_there}
 use Rattle.round_mix.proofs.TriedLaws.{clear_none}
 use Rattle.table_difference.specs.Targets.{Target}
 use Rattle.round_judge.specs.Goals.{duties_in}

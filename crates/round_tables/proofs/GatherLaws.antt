@@ -12,7 +12,7 @@ use Rattle.round_mix.specs.declared.MarkedRule.{MarkedRule}
 use Rattle.round_mix.proofs.ClearLaws.{prepared_needed}
 use Rattle.round_tables.specs.Loading.{AreSwitchesBelow}
 use Rattle.round_tables.specs.PreparedTables.{IsMixed}
-use Rattle.round_tables.proofs.TrialLaws.{changes_here, changes_there}
+use Rattle.round_tables.proofs.StepLaws.{changes_here, changes_there}
 
 -- what is prepared for a table alone has room for one entry more
 pub room_for_all : (rules : List Rule) (mixed : MixedState) (count : ℕ) → IsMixed rules [] mixed → length rules + count ≤ mixed.room

@@ -5,9 +5,12 @@ pub mod LoadLaws
 pub mod OutsideLaws
 pub mod FaultLaws
 pub mod ApplyLaws
-pub mod AloneLaws
+pub mod RefusalLaws
 pub mod GrowLaws
+pub mod StepLaws
+pub mod FitLaws
 pub mod TrialLaws
+pub mod TakenLaws
 pub mod ByKindLaws
 pub mod RoomLaws
 pub mod SoundLaws

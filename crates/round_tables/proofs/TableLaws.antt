@@ -6,10 +6,9 @@ use Rattle.net_base.specs.Members.{IsIn}
 use Rattle.net_base.specs.declared.ids.SwitchId.{SwitchId}
 use Rattle.flow_rules.specs.Tables.{TableState, IsTable, keys_of, rules_at, rules_of_all}
 use Rattle.flow_rules.specs.declared.rules.Rule.{Rule}
-use Rattle.update_model.specs.declared.Change.{Change}
 use Rattle.update_model.proofs.RoundLaws.{settled_start}
 use Rattle.update_model.specs.Mixtures.{Rollout}
-use Rattle.round_tables.specs.PreparedTables.{PreparedState, HoldsRounds, StandsBefore, is_touched, limit_at, list_at, mix_at, room_of, table_at}
+use Rattle.round_tables.specs.PreparedTables.{PreparedState, StandsBefore, is_touched, limit_at, table_at}
 
 -- a rule of a table has another key than those before it
 pub key_fresh : (rules : List Rule) (i : ℕ) (r : Rule) → IsTable rules → i < length rules → r ≡ get_or rules i r → ¬ IsIn r.key (keys_of (take i rules))

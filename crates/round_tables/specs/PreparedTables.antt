@@ -15,7 +15,8 @@ pub record ChangesState : Type 0 where
   pub room : ℕ
 
 -- the tables, what is prepared of each switch, which switches are to be prepared anew, the changes of each in a round, how many rules each
--- may come to hold (for trials, for how many entries there is room at least), and for how many rules of changes there is room beside
+-- may come to hold (for trials, for how many entries there is room at least), for how many rules of changes there is room beside, and the
+-- changes that are taken for a round that is filled
 pub record PreparedState : Type 0 where
   pub tables : List TableState
   pub mixes : List MixedState
@@ -23,6 +24,7 @@ pub record PreparedState : Type 0 where
   pub changes : List ChangesState
   pub limits : List ℕ
   pub room : ℕ
+  pub round : List Change
 
 -- the table of a switch, with its room
 abbrev pub table_at : List TableState → SwitchId → TableState

@@ -33,13 +33,15 @@ pub record Fit (net : Network) (t : PreparedState) : Type 0 where
   pub fits : (s : SwitchId) → s.0 < switch_count net → length (rules_there t.tables s) ≤ capacity_of net s
   pub clear : (s : SwitchId) → IsClear (rules_there t.tables s)
 
--- no change is tried: each switch is prepared for its table alone
+-- no change is tried or taken: each switch is prepared for its table alone
 pub record IsBetweenTrials (net : Network) (t : PreparedState) : Type 0 where
+  pub none : t.round ≡ []
   pub fit : Fit net t
   pub alone : (s : SwitchId) → s.0 < switch_count net → IsMixed (rules_there t.tables s) [] (mix_at t.mixes s)
 
 -- a change is tried: each switch is prepared for it as a round of its own, which is clear and within capacity
 pub record IsTrying (net : Network) (c : Change) (t : PreparedState) : Type 0 where
+  pub none : t.round ≡ []
   pub fit : Fit net t
   pub applies : Applies (rules_of_all t.tables) c
   pub stands : HasRoomAlone net (rules_of_all t.tables) c

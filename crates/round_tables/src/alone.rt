@@ -1,5 +1,5 @@
 //! Switches that are prepared for their tables alone.
-ghost use Rattle.std.specs.Prelude.{◌≡◌, ◌≢◌, ◌+◌, ◌<◌, ◌≤◌, [], length, IfOk, OnOk};
+ghost use Rattle.std.specs.Prelude.{◌≡◌, ◌+◌, ◌<◌, ◌≤◌, [], length, IfOk};
 ghost use Rattle.net_base.specs.declared.ids.SwitchId.{SwitchId as Switch};
 ghost use Rattle.topology.specs.Networks.{switch_count};
 ghost use Rattle.flow_rules.specs.Tables.{IsClear, rules_at, rules_of_all};
@@ -7,25 +7,12 @@ ghost use Rattle.path_walk.specs.UserConfigs.{IsUserConfig};
 ghost use Rattle.round_tables.specs.PreparedTables.{mix_at, IsMixed};
 ghost use Rattle.round_tables.specs.Trials.{HaveRoom};
 
-use crate::growing::make_room;
+use crate::growing::load_again;
 use flow_rules::{Config, Table};
 use net_base::{Memory, SwitchId};
 use round_mix::Mixed;
 use std::alloc::Global;
 use topology::Net;
-
-/// Prepares a switch for its table alone. Without changes a clear table has only itself as a mixture.
-fn load_alone(mixed: &mut Mixed, table: &Table)
-    requires clear { IsClear table.now.rules }
-    requires room { length table.now.rules ≤ mixed.old.room }
-    ensures prepared { IsMixed table.now.rules [] mixed.new }
-    ensures room { mixed.old.room ≤ mixed.new.room }
-{
-    match mixed.load(table, &[]) {
-        Ok(()) => mixed.index(),
-        Err(_) => unreachable!(),
-    }
-}
 
 /// A switch that is prepared for its table alone, with room for one entry more.
 fn alone(alloc: Global, table: &Table) -> Result<Mixed, Memory>
@@ -34,12 +21,12 @@ fn alone(alloc: Global, table: &Table) -> Result<Mixed, Memory>
     ensures room { IfOk result (λ m. length table.now.rules + 1 ≤ m.room) }
 {
     let mut mixed = Mixed::with_room(alloc, table.rules().len() + 1)?;
-    load_alone(&mut mixed, table);
+    load_again(&mut mixed, table, &[]);
     Ok(mixed)
 }
 
 /// Each switch, prepared for its table alone with room for one entry more, and for how many entries each has room at least.
-pub fn all_alone(
+pub(crate) fn all_alone(
     alloc: Global,
     net: &Net,
     tables: &Config,
@@ -60,31 +47,4 @@ pub fn all_alone(
         rooms.push(table.rules().len() + 1)?;
     }
     Ok((mixes, rooms))
-}
-
-/// Has room for one entry more than the table at one of the switches, which is prepared for its table alone and stays so.
-pub(crate) fn widen_at(
-    alloc: Global,
-    mixes: &mut [Mixed],
-    rooms: &mut [usize],
-    switch: SwitchId,
-    table: &Table,
-    capacity: u32,
-) -> Result<(), Memory>
-    requires within { switch.0 < length mixes.old }
-    requires counts { length rooms.old ≡ length mixes.old }
-    requires known { HaveRoom rooms.old mixes.old }
-    requires clear { IsClear table.now.rules }
-    requires alone { IsMixed table.now.rules [] (mix_at mixes.old switch) }
-    ensures room { OnOk result (length table.now.rules < (mix_at mixes.new switch).room) }
-    ensures known { HaveRoom rooms.new mixes.new }
-    ensures others { (o : Switch) → o.0 ≢ switch.0 → mix_at mixes.new o ≡ mix_at mixes.old o }
-    ensures alone { IsMixed table.now.rules [] (mix_at mixes.new switch) }
-{
-    let entries = table.rules().len() + 1;
-    if !make_room(alloc, mixes, rooms, switch, entries, capacity as usize + 1)? {
-        return Ok(());
-    }
-    load_alone(&mut mixes[switch.0 as usize], table);
-    Ok(())
 }

@@ -1,10 +1,12 @@
-//! The tables of a network with each switch prepared for the changes of a round, or for a single change that is tried.
+//! The tables of a network with each switch prepared for the changes of a round, for those that are taken so far for one, or for
+//! a single change that is tried.
 #![tactic(auto)]
 
 mod alone;
 mod applying;
 mod changed;
 mod ends;
+mod filling;
 mod gathering;
 mod growing;
 mod loading;
@@ -13,10 +15,9 @@ mod prepared;
 mod rollout;
 mod room;
 mod sound;
+mod steps;
 mod trials;
 
-pub use alone::all_alone;
-pub use growing::make_room;
 pub use loading::RoundFault;
 pub use prepared::PreparedTables;
 pub use rollout::Rollout;

@@ -14,9 +14,11 @@ use net_base::{Memory, SwitchId};
 use round_mix::Mixed;
 use std::alloc::Global;
 use std::marker::Model;
+use update_model::Change;
 
-/// The tables of a network, and what is prepared of each switch: for its table alone, for its changes in a round, or for a
-/// single change that is tried. A switch is touched where it is to be prepared anew.
+/// The tables of a network, and what is prepared of each switch: for its table alone, for its changes in a round, for those that
+/// are taken so far for a round that is filled, or for a single change that is tried. A switch is touched where it is to be
+/// prepared anew.
 #[derive(Drop)]
 pub struct PreparedTables {
     pub(crate) tables: Config,
@@ -28,6 +30,8 @@ pub struct PreparedTables {
     pub(crate) limits: Vec<usize>,
     /// Room for the rules of changes, to sort them.
     pub(crate) rules: Vec<Rule>,
+    /// The changes that are taken for a round that is filled.
+    pub(crate) round: Vec<Change>,
 }
 
 impl Model for PreparedTables {
@@ -36,7 +40,7 @@ impl Model for PreparedTables {
 
     ghost Value = { PreparedState };
 
-    ghost view = { λ p. record { tables = p.tables; mixes = p.mixes.items; touched = p.touched.items; changes = p.changes.items; limits = p.limits.items; room = vec_capacity p.rules } };
+    ghost view = { λ p. record { tables = p.tables; mixes = p.mixes.items; touched = p.touched.items; changes = p.changes.items; limits = p.limits.items; room = vec_capacity p.rules; round = p.round.items } };
 }
 
 /// Puts the rules of one table into another in the place of its own.

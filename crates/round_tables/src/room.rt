@@ -244,5 +244,6 @@ pub(crate) fn with_limits(
         changes,
         limits,
         rules,
+        round: Vec::new(alloc),
     })
 }

@@ -1,35 +1,31 @@
 //! Single changes are tried on the tables of a network.
-ghost use Rattle.std.specs.Prelude.{◌≡◌, ◌∷◌, [], List, length, true, false, ◌↔◌, ◌<◌, ◌≤◌, IsTrue, IsSome, IfOk, OnOk, OnErr};
-ghost use Rattle.topology.specs.Networks.{switch_count, capacity_of};
+ghost use Rattle.std.specs.Prelude.{◌≡◌, ◌∷◌, [], List, true, false, IfOk, OnOk, OnErr};
 ghost use Rattle.flow_rules.specs.Tables.{rules_of_all};
-ghost use Rattle.flow_rules.specs.declared.rules.Rule.{Rule};
 ghost use Rattle.path_walk.specs.UserConfigs.{IsUserConfig};
-ghost use Rattle.update_model.specs.Changes.{Applies, switch_of, tables_after_change};
-ghost use Rattle.update_model.specs.Mixtures.{entries_needed};
-ghost use Rattle.update_model.specs.declared.Change.{Change as ChangeOf};
-ghost use Rattle.round_mix.specs.Prepared.{AreClear};
+ghost use Rattle.update_model.specs.Changes.{Applies, tables_after_change};
+ghost use Rattle.round_tables.specs.Filling.{AreTaken};
 ghost use Rattle.round_tables.specs.Trials.{IsBetweenTrials, IsTrying, HasRoomAlone};
-ghost use Rattle.round_tables.specs.PreparedTables.{mix_at, IsMixed, rules_there};
-ghost use Rattle.round_tables.specs.Steps.{IsSettledBeside};
 
-use crate::alone::{all_alone, widen_at};
-use crate::changed::{begin_at, give_up_at, keep_at};
-use crate::loading::keeps_keys;
+use crate::alone::all_alone;
 use crate::prepared::PreparedTables;
+use crate::steps::make_change;
 use flow_rules::Config;
-use net_base::{Memory, SwitchId};
+use net_base::Memory;
 use std::alloc::Global;
 use topology::Net;
-use update_model::{Change, change_tables};
+use update_model::Change;
 
 impl PreparedTables {
-    /// The tables of a configuration, each switch prepared for its table alone, to try single changes on them. There is no room
-    /// for the changes of a round. It takes memory by the rules of the tables, whatever the capacities.
+    /// The tables of a configuration, each switch prepared for its table alone, to try single changes on them or to fill rounds.
+    /// There is no room for the changes of rounds that are given. It takes memory by the rules of the tables, whatever the
+    /// capacities.
     pub fn for_trials(alloc: Global, net: &Net, config: &Config) -> Result<PreparedTables, Memory>
         requires { IsUserConfig net.now (rules_of_all config.now) }
         ensures rules { IfOk result (λ t. rules_of_all t.tables ≡ rules_of_all config.now) }
         ensures settled { IfOk result (IsBetweenTrials net.now) }
+        ensures taken { IfOk result (AreTaken net.now) }
     {
+        net.keeps_rules();
         let tables = config.copy()?;
         let (mixes, limits) = all_alone(alloc, net, &tables)?;
         Ok(PreparedTables {
@@ -39,95 +35,8 @@ impl PreparedTables {
             changes: Vec::new(alloc),
             limits,
             rules: Vec::new(alloc),
+            round: Vec::new(alloc),
         })
-    }
-
-    /// Has room for one entry more at a switch than its table has.
-    fn widen(&mut self, alloc: Global, net: &Net, switch: SwitchId) -> Result<(), Memory>
-        requires settled { IsBetweenTrials net.now self.old }
-        requires within { switch.0 < switch_count net.now }
-        ensures rules { rules_of_all self.new.tables ≡ rules_of_all self.old.tables }
-        ensures settled { IsBetweenTrials net.now self.new }
-        ensures room { OnOk result (length (rules_there self.new.tables switch)
-            < (mix_at self.new.mixes switch).room) }
-    {
-        let table = self.tables.table(switch);
-        let capacity = net.capacity(switch);
-        widen_at(
-            alloc,
-            &mut self.mixes,
-            &mut self.limits,
-            switch,
-            table,
-            capacity,
-        )
-    }
-
-    /// Prepares the switch of a change for it, if each mixture is clear.
-    fn load(&mut self, net: &Net, change: &Change) -> bool
-        requires settled { IsBetweenTrials net.now self.old }
-        requires applies { Applies (rules_of_all self.old.tables) change.now }
-        requires room { length (rules_there self.old.tables (switch_of change.now))
-            < (mix_at self.old.mixes (switch_of change.now)).room }
-        ensures rules { rules_of_all self.new.tables ≡ rules_of_all self.old.tables }
-        ensures beside { IsSettledBeside net.now (switch_of change.now) self.new }
-        ensures yes { result ≡ true
-            → IsMixed (rules_there self.new.tables (switch_of change.now)) (change.now ∷ [])
-            (mix_at self.new.mixes (switch_of change.now)) }
-        ensures no { result ≡ false
-            → ¬ AreClear (rules_there self.new.tables (switch_of change.now)) (change.now ∷ []) }
-        ensures alone { result ≡ false → IsBetweenTrials net.now self.new }
-    {
-        let switch = change.switch();
-        keeps_keys(self.tables.table(switch));
-        begin_at(&mut self.mixes, switch, change)
-    }
-
-    /// Prepares the switch of a change, which is prepared for it, for its table alone again, as the others are.
-    fn settle(&mut self, net: &Net, change: &Change)
-        requires beside { IsSettledBeside net.now (switch_of change.now) self.old }
-        requires loaded { IsMixed (rules_there self.old.tables (switch_of change.now))
-            (change.now ∷ []) (mix_at self.old.mixes (switch_of change.now)) }
-        ensures rules { rules_of_all self.new.tables ≡ rules_of_all self.old.tables }
-        ensures settled { IsBetweenTrials net.now self.new }
-    {
-        let switch = change.switch();
-        keeps_keys(self.tables.table(switch));
-        give_up_at(&mut self.mixes, switch, change);
-    }
-
-    /// Whether what is prepared of a switch is within its capacity.
-    fn is_within(&self, net: &Net, switch: SwitchId) -> bool
-        requires beside { IsSettledBeside net.now switch self.now }
-        requires prepared { IsSome (mix_at self.now.mixes switch).prepared }
-        ensures { (table : List Rule) (changes : List ChangeOf)
-            → IsMixed table changes (mix_at self.now.mixes switch)
-            → IsTrue result ↔ (entries_needed table changes ≤ capacity_of net.now switch) }
-    {
-        self.mixes[switch.0 as usize].most_entries() <= u64::from(net.capacity(switch))
-    }
-
-    /// Prepares the switch of a change, which has room for it, as `begin` does.
-    fn begin_with_room(&mut self, net: &Net, change: &Change) -> bool
-        requires settled { IsBetweenTrials net.now self.old }
-        requires applies { Applies (rules_of_all self.old.tables) change.now }
-        requires room { length (rules_there self.old.tables (switch_of change.now))
-            < (mix_at self.old.mixes (switch_of change.now)).room }
-        ensures rules { rules_of_all self.new.tables ≡ rules_of_all self.old.tables }
-        ensures yes { result ≡ true → IsTrying net.now change.now self.new }
-        ensures no { result ≡ false → IsBetweenTrials net.now self.new }
-        ensures never { result ≡ false
-            → ¬ HasRoomAlone net.now (rules_of_all self.old.tables) change.now }
-    {
-        if !self.load(net, change) {
-            return false;
-        }
-        if self.is_within(net, change.switch()) {
-            net.keeps_rules();
-            return true;
-        }
-        self.settle(net, change);
-        false
     }
 
     /// Prepares the switch of a change for it, if as a round of its own the change is clear and within capacity. If it
@@ -145,8 +54,9 @@ impl PreparedTables {
             → ¬ HasRoomAlone net.now (rules_of_all self.old.tables) change.now) }
         ensures settled { OnErr result (IsBetweenTrials net.now self.new) }
     {
+        net.keeps_rules();
         self.widen(alloc, net, change.switch())?;
-        Ok(self.begin_with_room(net, change))
+        Ok(self.begin_beside(net, change))
     }
 
     /// Prepares the switch of a change that was tried for its table alone again. It looks at each rule of the switch once.
@@ -155,7 +65,7 @@ impl PreparedTables {
         ensures rules { rules_of_all self.new.tables ≡ rules_of_all self.old.tables }
         ensures settled { IsBetweenTrials net.now self.new }
     {
-        self.settle(net, change);
+        self.unmark(net, change);
     }
 
     /// Makes a change that was tried. After a refusal the tables are as before and the change is still tried.
@@ -169,10 +79,8 @@ impl PreparedTables {
         ensures same { OnErr result (rules_of_all self.new.tables ≡ rules_of_all self.old.tables) }
         ensures trying { OnErr result (IsTrying net.now change.now self.new) }
     {
-        let switch = change.switch();
-        keeps_keys(self.tables.table(switch));
-        change_tables(&mut self.tables, change)?;
-        keep_at(&mut self.mixes, switch, change);
+        net.keeps_rules();
+        make_change(&mut self.tables, &mut self.mixes, change)?;
         Ok(())
     }
 }

@@ -9,8 +9,8 @@ use Rattle.round_mix.proofs.Mixed.begin_all.Goals as goal
 pub loop-change-init : goal.loop-change-init
 loop-change-init c = record { so_far = λ table is_table prepared. prepared; few = few_start c.args.self.now.prepared 0; room = omega arith }
 
-pub begin_next-requires : goal.begin_next-requires
-begin_next-requires c =
+pub begin-requires : goal.begin-requires
+begin-requires c =
     room_next c.args.self.now.prepared c.loop-change.self.prepared (length c.args.changes.now) c.args.self.now.room c.loop-change.self.room c.loop-change.change-index
     (omega (arith, c.loop-change-test.true)) c.loop-change.invariant.room c.requires c.loop-change.invariant.few
 
@@ -20,15 +20,15 @@ loop-change-preserved c =
     let i = c.loop-change.change-index in
     let this = c.change-item.result in
     let old = c.loop-change.self in
-    let new = c.begin_next.new.self in
+    let new = c.begin.new.self in
     let inv = c.loop-change.invariant in
     record {
       so_far = λ table is_table prepared.
           subst (λ (cs : List Change). IsSomeAnd new.prepared (IsPrepared table cs))
           (sym (take_more changes i this c.loop-change-test.true ∙ ap (λ (x : Change). take i changes ++ x ∷ []) (sym c.change-item.is)))
-          (c.begin_next.ensures.yes table (take i changes) is_table (inv.so_far table is_table prepared) c.if-not-begin_next.false);
-      few = few_more c.args.self.now.prepared old.prepared new.prepared i 1 inv.few c.begin_next.ensures.few;
-      room = omega (arith, inv.room, c.begin_next.ensures.room);
+          (c.begin.ensures.yes table (take i changes) is_table (inv.so_far table is_table prepared) c.if-not-begin.false);
+      few = few_more c.args.self.now.prepared old.prepared new.prepared i 1 inv.few c.begin.ensures.few;
+      room = omega (arith, inv.room, c.begin.ensures.room);
     }
 
 pub returns-clause-yes : goal.returns-clause-yes

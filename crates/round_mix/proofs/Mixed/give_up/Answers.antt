@@ -1,18 +1,19 @@
-use Rattle.std.proofs.Common.{◌≤◌, ◌∷◌, [], cond, List, length, sym, ◌∙◌, ap, subst, arith}
+use Rattle.std.proofs.Common.{◌≤◌, ◌∷◌, [], ◌++◌, cond, List, length, sym, ◌∙◌, ap, subst, arith}
 use Rattle.std.specs.Prelude.{Some, None, reverse, IfSome, IsSomeAnd}
 use Rattle.round_mix.specs.Nearest.{patterns_in}
 use Rattle.round_mix.specs.Prepared.{IsFalling, MixedState, IsPrepared}
 use Rattle.round_mix.specs.declared.MarkedRule.{MarkedRule}
-use Rattle.round_mix.proofs.TriedLaws.{returned, given_falling, given_few, given_patterns, carried, carried_few}
+use Rattle.round_mix.proofs.BackLaws.{returned}
+use Rattle.round_mix.proofs.TriedLaws.{given_falling, given_few, given_patterns, carried, carried_few}
 use Rattle.round_mix.proofs.Mixed.give_up.Goals as goal
 
-pub returns-clause-alone : goal.returns-clause-alone
-returns-clause-alone c table is_table prepared =
+pub returns-clause-before : goal.returns-clause-before
+returns-clause-before c table changes is_table prepared =
     let change = c.args.change.now in
     let marks = c.self.inside.rules.items in
-    carried c.self.inside.is_prepared marks c.take_back.new.marks.items (IsPrepared table (change ∷ [])) (IsPrepared table [])
-    (subst (λ (v : MixedState). IsSomeAnd v.prepared (IsPrepared table (change ∷ []))) (sym c.self.view_is) prepared)
-    (λ p. subst (IsPrepared table []) (sym c.take_back.ensures.items) (returned table marks change is_table p))
+    carried c.self.inside.is_prepared marks c.take_back.new.marks.items (IsPrepared table (changes ++ change ∷ [])) (IsPrepared table changes)
+    (subst (λ (v : MixedState). IsSomeAnd v.prepared (IsPrepared table (changes ++ change ∷ []))) (sym c.self.view_is) prepared)
+    (λ p. subst (IsPrepared table changes) (sym c.take_back.ensures.items) (returned table changes change marks is_table p))
 
 pub returns-clause-few : goal.returns-clause-few
 returns-clause-few c =

@@ -11,7 +11,7 @@ use Rattle.round_packer.proofs.PackLaws.{left_remains, plain_left, filled_left, 
 use Rattle.round_packer.proofs.rounds.pack_rounds.Goals as goal
 
 pub left_of-requires : goal.left_of-requires
-left_of-requires c = c.requires.packed.1.filling.trial_is
+left_of-requires c = c.requires.packed.1.filling.taken
 
 pub packing-init : goal.packing-init
 packing-init c = (
@@ -40,7 +40,7 @@ keep_round-requires c =
     let (left, so_far) = c.packing.invariant in
     let to = c.args.goal.now in
     let known = subst (AllByRecursion (HasFailed to (tables_past c.packing.rounds old) [])) (sym c.deref-in-packing.ensures.value) (so_far old packed).1 in
-    (c.in_ok-failed.ensures.filled (tables_past c.packing.rounds old) [] (so_far old packed).0.filling known).filling.trial_is
+    (c.in_ok-failed.ensures.filled (tables_past c.packing.rounds old) [] (so_far old packed).0.filling known).filling.taken
 
 pub packing-preserved : goal.packing-preserved
 packing-preserved c = (

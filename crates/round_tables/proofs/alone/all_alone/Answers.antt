@@ -4,7 +4,7 @@ use Rattle.flow_rules.specs.declared.rules.Rule.{Rule}
 use Rattle.round_tables.specs.PreparedTables.{IsMixed}
 use Rattle.round_tables.specs.Trials.{HaveRoom}
 use Rattle.round_tables.proofs.GrowLaws.{have_pushed}
-use Rattle.round_tables.proofs.TrialLaws.{switch_n, each_pushed}
+use Rattle.round_tables.proofs.StepLaws.{switch_n, each_pushed}
 use Rattle.flow_rules.proofs.TableLaws.{rules_get}
 use Rattle.round_tables.proofs.alone.all_alone.Goals as goal
 

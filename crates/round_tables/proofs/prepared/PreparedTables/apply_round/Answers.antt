@@ -62,6 +62,7 @@ returns-clause-stands c =
       changes = inside.changes.items;
       limits = inside.limits.items;
       room = vec_capacity inside.rules;
+      round = inside.round.items;
     } in
     let prepared : ArePrepared u k p = subst (ArePrepared u k) (sym c.self.view_is) c.requires.prepared in
     let holds : HoldsRounds n u.rounds p = subst (HoldsRounds n u.rounds) (sym c.self.view_is) c.requires.room in
@@ -76,6 +77,7 @@ returns-clause-stands c =
       changes = inside.changes.items;
       limits = inside.limits.items;
       room = vec_capacity c.change_all.new.rules;
+      round = inside.round.items;
     } in
     let len : length (tables_before u k) ≡ n = ap length (sym prepared.tables) ∙ length-map inside.tables (λ (t : TableState). t.rules) ∙ holds.tables in
     let within : AreSwitchesBelow (length (tables_before u k)) round = subst (λ (m : ℕ). AreSwitchesBelow m round) (sym len) prepared.within in

@@ -22,6 +22,7 @@ returns-clause-stands c =
       changes = inside.changes.items;
       limits = inside.limits.items;
       room = vec_capacity inside.rules;
+      round = inside.round.items;
     } in
     let fit : (s : SwitchId) → s.0 < length u.old → length (rules_at u.old s) ≤ limit_at inside.limits.items s =
     subst (λ (q : PreparedState). (s : SwitchId) → s.0 < length u.old → length (rules_at u.old s) ≤ limit_at q.limits s) (sym c.self.view_is) c.requires.fit in

@@ -1,0 +1,25 @@
+-- A round that is filled on tables, change by change.
+use Rattle.std.specs.Prelude.{◌≤◌, ◌<◌, List}
+use Rattle.net_base.specs.declared.ids.SwitchId.{SwitchId}
+use Rattle.topology.specs.Networks.{Network, switch_count, capacity_of}
+use Rattle.flow_rules.specs.Tables.{IsClear, rules_of_all}
+use Rattle.flow_rules.specs.declared.rules.Rule.{Rule}
+use Rattle.update_model.specs.Changes.{IsGoodRound}
+use Rattle.update_model.specs.Mixtures.{MayHold, need_of}
+use Rattle.update_model.specs.declared.Change.{Change}
+use Rattle.certificates.specs.Rounds.{one_round_of}
+use Rattle.check_reasons.specs.Loaded.{AreLoaded}
+use Rattle.round_tables.specs.PreparedTables.{PreparedState}
+use Rattle.round_tables.specs.Steps.{AreReady}
+
+-- as far as the tables go the changes can be a round: they are a good round, each mixture is clear, and each need within capacity
+pub record FitTables (net : Network) (tables : List (List Rule)) (changes : List Change) : Type 0 where
+  pub good : IsGoodRound tables changes
+  pub clear : (s : SwitchId) (mixed : List Rule) → MayHold (one_round_of net tables changes) 0 s mixed → IsClear mixed
+  pub fits : (s : SwitchId) → s.0 < switch_count net → need_of (one_round_of net tables changes) 0 s ≤ capacity_of net s
+
+-- the taken changes can be a round as far as the tables go, and each switch is prepared for those that are taken there, as walks want it
+pub record AreTaken (net : Network) (t : PreparedState) : Type 0 where
+  pub ready : AreReady net t.round t
+  pub fit : FitTables net (rules_of_all t.tables) t.round
+  pub loaded : AreLoaded (one_round_of net (rules_of_all t.tables) t.round) 0 t.mixes

@@ -1,6 +1,0 @@
-use Rattle.std.proofs.Common.{◌≡◌, take}
-use Rattle.update_model.specs.Changes.{changes_at}
-use Rattle.round_trials.proofs.preparing.changes_there.Given as goal
-
-abbrev pub invariant-loop-change : goal.invariant-loop-change
-invariant-loop-change l = l.list.items ≡ changes_at l.switch (take l.change-index l.round)
