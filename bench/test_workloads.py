@@ -266,7 +266,7 @@ class AnswerTests(unittest.TestCase):
 
     def test_a_simulation_makes_the_named_events(self):
         """The numbers of changes go up and down over powers of 2."""
-        for sizes, packets, start in itertools.product(([1, 1], [2, 2, 2], [7, 7], [8, 8], [9, 9, 9], [100, 100]), (0, 30), (0, 3, 2**64 - 5)):
+        for sizes, packets, start in itertools.product(([1, 1], [2, 2, 2, 2], [7, 7], [8, 8], [9, 9, 9, 9], [100, 100]), (0, 30), (0, 3, 2**64 - 5)):
             words = [*workloads.SIMULATE[:-2], str(start), str(packets)]
             workload = workloads.toggled_rules(len(sizes), workloads.ranked_rules(sizes[0], 1), words=words)
             with self.subTest(words=words[-2:], sizes=sizes), tempfile.TemporaryDirectory() as folder:

@@ -1,9 +1,9 @@
 -- Sums of neighbours, and the way up and down through the rows of a tree of counts.
-use Rattle.std.proofs.Common.{◌≡◌, ℕ, zero, suc, ◌+◌, ◌-◌, ◌*◌, ◌/◌, ◌%◌, ◌<◌, ◌≤◌, ◌≢◌, Bool, true, false, List, [], ◌∷◌, ◌++◌, map, length, set, get_or, get_or-set_same, get_or-set_other, sum, Vec, Global, refl, sym, ◌∙◌, subst, ap, inl, inr, arith, length-append}
+use Rattle.std.proofs.Common.{◌≡◌, ℕ, zero, suc, ◌+◌, ◌-◌, ◌*◌, ◌/◌, ◌%◌, ◌<◌, ◌≤◌, Bool, true, false, List, [], ◌∷◌, ◌++◌, map, length, set, get_or, sum, Vec, Global, refl, sym, ◌∙◌, subst, ap, inl, inr, arith, length-append}
 use Rattle.std.specs.Prelude.{slice_get, Some, None}
 use Rattle.std.proofs.lemmas.List.{map-set, length-set, get_or_append_left, get_or_push}
 use Rattle.std.proofs.lemmas.List.Sums.{sum_by-cons}
-use Rattle.std.proofs.lemmas.Bool.{cases_eq, cases_lt}
+use Rattle.std.proofs.lemmas.Bool.{cases_lt}
 use Rattle.schedule_pilot.specs.Agendas.{numbers_on}
 use Rattle.schedule_pilot.specs.Counts.{one_if_on, pair_sums, AreRows, IsTreeOf, top_of, position_above, with_one_less, CountsUpFrom, AreLowered, sum_before, IsCountedAt}
 
@@ -61,12 +61,7 @@ none_before : (row : List ℕ) → sum_before row 0 ≡ 0
 none_before [] = refl
 none_before (n ∷ row) = refl
 
--- a number that isn't 0 stands in its row
-pub within_row : (row : List ℕ) (i : ℕ) → 0 < get_or row i 0 → i < length row
-within_row [] i some = absurd (omega arith)
-within_row (n ∷ row) zero some = omega arith
-within_row (n ∷ row) (suc i) some = let rest = within_row row i some in omega arith
-
+-- where the sum of two neighbours isn't 0 the first of them stands in the row
 twice_within : (row : List ℕ) (i : ℕ) → 0 < get_or (pair_sums row) i 0 → double i < length row
 twice_within [] i some = absurd (omega arith)
 twice_within (a ∷ []) zero some = omega arith
@@ -269,33 +264,6 @@ module _ (flags : List Bool) (i : ℕ) (on : slice_get flags i ≡ Some true) (o
         let top = tree.top in
         omega arith;
   }
-
--- the rows after one more of them is lowered
-pub lowered_next : (i j : ℕ) (old now next : List (List ℕ)) → AreLowered i j old now → j < length old → next ≡ set now j (with_one_less (position_above i j) (get_or now j [])) → AreLowered i (suc j) old next
-lowered_next i j old now next so less is = subst (AreLowered i (suc j) old) (sym is) (record {
-  count = length-set now j _ ∙ so.count;
-  below = λ k under. elim (cases_eq k j) [
-    | inl e ↦ same k e
-    | inr ne ↦ (let before : k < j = omega arith in other k ne ∙ so.below k before)
-  ];
-  above = λ k over. (let ne : k ≢ j = (λ e. absurd (omega arith)) in other k ne ∙ so.above k (omega arith));
-})
-  where
-    new_row : List ℕ
-    new_row = with_one_less (position_above i j) (get_or now j [])
-
-    same : (k : ℕ) → k ≡ j → get_or (set now j new_row) k [] ≡ with_one_less (position_above i k) (get_or old k [])
-    same k e =
-        let count = so.count in
-        let inside : j < length now = omega arith in
-        ap (λ n. get_or (set now j new_row) n []) e ∙ get_or-set_same now j new_row [] inside
-        ∙ ap (with_one_less (position_above i j)) (so.above j (omega arith)) ∙ ap (λ n. with_one_less (position_above i n) (get_or old n [])) (sym e)
-
-    other : (k : ℕ) → k ≢ j → get_or (set now j new_row) k [] ≡ get_or now k []
-    other k ne = get_or-set_other now j k new_row [] ne
-
-pub none_lowered : (i : ℕ) (rows : List (List ℕ)) → AreLowered i 0 rows rows
-none_lowered i rows = record { count = refl; below = λ j less. absurd (omega arith); above = λ j over. refl }
 
 -- the rows as they stand in memory, after a number of one of them is lowered
 pub row_lowered : (list : List (Vec ℕ Global)) (j i : ℕ) (v d : Vec ℕ Global) → j < length list → v.items ≡ with_one_less i (get_or list j d).items

@@ -18,7 +18,7 @@ use Rattle.update_model.specs.declared.Event.{Event}
 use Rattle.update_model.specs.declared.Event.TheVariants as event
 use Rattle.update_model.proofs.OneRoundLaws.{TablesAre}
 use Rattle.schedule_pilot.specs.Offered.{AreThose, AreOffered, next_entry}
-use Rattle.schedule_pilot.specs.Agendas.{numbers_on, numbers_under_way, numbers_without, IsAgenda, AddsThose}
+use Rattle.schedule_pilot.specs.Agendas.{numbers_on, numbers_without, IsAgenda, AddsThose}
 use Rattle.schedule_pilot.specs.Counted.{IsCounted, IsDue, offered_events}
 use Rattle.schedule_pilot.specs.Ends.{AreEntries}
 use Rattle.schedule_pilot.specs.Driving.{world_rollout, BeginsSafely}
@@ -159,15 +159,6 @@ module _ (w next : WorldState) (pending : List Bool) (under_way : List ℕ) (kep
   agenda : IsAgenda w.state (numbers_on 0 pending) under_way
   agenda = record { pending_are = ap (numbers_on 0) kept.pending_are; under_way_are = kept.under_way_are }
 
-  pub start_counted : (now flags : List Bool) → next ≡ world_after w event.Start → flags ≡ next.state.pending → now ≡ flags → IsCounted next.state now under_way
-  start_counted now flags is same renewed = record {
-    pending_are = renewed ∙ same;
-    under_way_are = kept.under_way_are ∙ sym (ap (λ (x : WorldState). numbers_under_way x.state.packets) is);
-  }
-
-  pub settle_counted : next ≡ world_after w event.Settle → IsCounted next.state pending under_way
-  settle_counted is = subst (λ (x : WorldState). IsCounted x.state pending under_way) (sym is) (record { pending_are = kept.pending_are; under_way_are = kept.under_way_are })
-
   pub change_counted : (i : ℕ) (now : List Bool) → next ≡ world_after w (event.Change i) → now ≡ set pending i false → IsCounted next.state now under_way
   change_counted i now is changed =
       subst (λ (x : WorldState). IsCounted x.state now under_way) (sym is)
@@ -194,12 +185,7 @@ module _ (w next : WorldState) (pending : List Bool) (under_way : List ℕ) (kep
     under_way_are = (lose_kept w next (numbers_on 0 pending) under_way agenda i packets now may is same changed).under_way_are;
   }
 
--- a list in two parts
-pub at_left : (xs ys : List Event) (i : ℕ) (e : Event) → slice_get xs i ≡ Some e → slice_get (xs ++ ys) i ≡ Some e
-at_left [] ys i e at = absurd (let f : None ≡ Some e = at in cc)
-at_left (x ∷ xs) ys zero e at = at
-at_left (x ∷ xs) ys (suc i) e at = at_left xs ys i e at
-
+-- what stands behind the first part of a list
 pub at_right : (xs ys : List Event) (i j : ℕ) (e : Event) → i ≡ length xs + j → slice_get ys j ≡ Some e → slice_get (xs ++ ys) i ≡ Some e
 at_right [] ys i j e is at = let same : i ≡ j = omega arith in ap (slice_get ys) same ∙ at
 at_right (x ∷ xs) ys zero j e is at = absurd (omega arith)

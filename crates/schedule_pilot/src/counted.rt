@@ -21,14 +21,6 @@ pub(crate) struct Counted {
     pub(crate) under_way: Vec<usize>,
 }
 
-/// Puts a tree of the flags in place of another.
-fn renew(pending: &mut FlagTree, alloc: Global, flags: &[bool]) -> Result<(), Memory>
-    ensures { OnOk result (pending.new ≡ flags.now) }
-{
-    *pending = FlagTree::of(alloc, flags)?;
-    Ok(())
-}
-
 impl Counted {
     /// What is under way in a world.
     pub(crate) fn of(alloc: Global, world: &World) -> Result<Counted, Memory>
@@ -41,12 +33,7 @@ impl Counted {
     }
 
     /// Makes an event that may happen, and keeps what is under way after it.
-    pub(crate) fn make_event(
-        &mut self,
-        alloc: Global,
-        world: &mut World,
-        event: Event,
-    ) -> Result<(), Memory>
+    pub(crate) fn make_event(&mut self, world: &mut World, event: Event) -> Result<(), Memory>
         requires may { IsEnabled world.old.net world.old.rounds world.old.state event }
         requires kept { IsCounted world.old.state self.old.pending self.old.under_way.items }
         ensures world { OnOk result (world.new ≡ world_after world.old event) }
@@ -55,7 +42,7 @@ impl Counted {
     {
         happen(world, event)?;
         match event {
-            Event::Start => renew(&mut self.pending, alloc, world.flags())?,
+            Event::Start => self.pending.renew(world.flags())?,
             Event::Settle => {}
             Event::Change(i) => self.pending.turn_off(i),
             Event::Enter(_, _) => add_last(&mut self.under_way, world.packets())?,
@@ -127,7 +114,8 @@ fn hop_of(under_way: &[usize], place: usize) -> Event
 /// The next entry, or one of the hops.
 fn later_event(entries: &[Entry], under_way: &[usize], place: usize) -> Event
     requires { place < length (next_entry entries.now ++ map event.Hop under_way.now) }
-    ensures { slice_get (next_entry entries.now ++ map event.Hop under_way.now) place ≡ Some result }
+    ensures { slice_get (next_entry entries.now ++ map event.Hop under_way.now) place
+        ≡ Some result }
 {
     match entries.first() {
         Some(entry) if place == 0 => Event::Enter(entry.place, entry.dst),

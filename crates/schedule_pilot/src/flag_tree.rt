@@ -235,6 +235,14 @@ impl FlagTree {
         })
     }
 
+    /// Puts other flags in place of all. Takes time by their number.
+    pub(crate) fn renew(&mut self, flags: &[bool]) -> Result<(), Memory>
+        ensures { OnOk result (self.new ≡ flags.now) }
+    {
+        *self = FlagTree::of(*self.flags.allocator(), flags)?;
+        Ok(())
+    }
+
     /// How many flags are on. Takes the same time for any number of flags.
     pub(crate) fn count(&self) -> usize
         ensures value { result ≡ length (numbers_on 0 self.now) }

@@ -16,7 +16,6 @@ use update_model::{Events, World};
 
 /// Makes events until the run ends, where none was made before. What is under way in the world is counted.
 fn run_on<F: Fn(u64, u64) -> u64>(
-    alloc: Global,
     world: &mut World,
     counted: &mut Counted,
     events: &mut Events,
@@ -45,7 +44,7 @@ fn run_on<F: Fn(u64, u64) -> u64>(
         }
         let named = pilot.ask(made, offered as u64);
         let event = offered_event(due, counted, rest, named as usize);
-        counted.make_event(alloc, world, event)?;
+        counted.make_event(world, event)?;
         events.add(event)?;
         rest = entries_past(event, rest);
         made += 1;
@@ -80,15 +79,7 @@ pub fn drive_safely<'a, F: Fn(u64, u64) -> u64>(
     let mut counted = Counted::of(alloc, &world)?;
     let mut now = world;
     let mut events = Events::make(alloc)?;
-    let ending = run_on(
-        alloc,
-        &mut now,
-        &mut counted,
-        &mut events,
-        pilot,
-        entries,
-        budget,
-    )?;
+    let ending = run_on(&mut now, &mut counted, &mut events, pilot, entries, budget)?;
     Ok(Driven {
         events,
         world: now,
