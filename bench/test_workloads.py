@@ -16,7 +16,7 @@ import workloads  # noqa: E402
 from workloads import GREATEST_FILE, WORKLOADS  # noqa: E402
 
 # Large to make, and of the same kind as others.
-LEFT_OUT = {"check-spread", "check-big-rounds", "check-kinds-big"}
+LEFT_OUT = {"check-spread", "check-big-rounds", "check-kinds-big", "simulate-spread"}
 # How many rules the plans have, how many rounds and how many changes, where the titles speak of them.
 COUNTS = {
     "check-long-table": (8000, 4200, 24_396),
@@ -27,6 +27,7 @@ COUNTS = {
     "check-touched-few": (2, 64, 128),
     "check-parallel-wide": (8000, 2, 16_000),
     "explain-cycles": (2, 4, 4),
+    "simulate-round": (8190, 2, 16_380),
 }
 # How many classes there are.
 CLASSES = {
@@ -82,6 +83,29 @@ def share_a_packet(one, other):
     return all(a == b or "any" in (a, b) for a, b in tests) and ipaddress.ip_network(one["dst"]).overlaps(ipaddress.ip_network(other["dst"]))
 
 
+def plain_run(sizes, packets, start):
+    """The events of a run, each chosen from a list of all that is offered: rounds of these sizes, and so many packets that the first switch drops."""
+    events, settled, running, pending, born, under_way = [], 0, False, [], [], []
+    while running or pending or under_way or settled < len(sizes) or len(born) < packets:
+        may_start = not running and settled < len(sizes) and all(born[i] >= settled for i in under_way)
+        offered = ["start"] * may_start + ["settle"] * (running and not pending) + [f"change {i}" for i in pending]
+        offered += ["enter"] * (len(born) < packets) + [f"hop {i}" for i in under_way]
+        events.append(offered[(start + 7 * len(events)) % 2**64 % len(offered)])
+        word, *number = events[-1].split()
+        if word == "start":
+            running, pending = True, list(range(sizes[settled]))
+        elif word == "settle":
+            running, settled = False, settled + 1
+        elif word == "change":
+            pending.remove(int(number[0]))
+        elif word == "enter":
+            under_way.append(len(born))
+            born.append(settled)
+        else:
+            under_way.remove(int(number[0]))
+    return events
+
+
 def clashes(rules):
     return [(i, j) for (i, one), (j, other) in itertools.combinations(enumerate(rules), 2) if share_a_packet(one, other)]
 
@@ -90,7 +114,7 @@ class LimitTests(unittest.TestCase):
     def look_at_words(self, workload):
         """The files are those that the words name, and a plan that the planner makes."""
         plan = {"plan.json"} if workload.needs_plan() else set()
-        self.assertEqual({f"{name}.json" for name in workload.files} | plan, set(workload.words[1:]))
+        self.assertEqual({f"{name}.json" for name in workload.files} | plan, {word for word in workload.words[1:] if word.endswith(".json")})
 
     def look_at_limits(self, files, classes):
         """The counts are within the limits of files."""
@@ -116,7 +140,7 @@ class LimitTests(unittest.TestCase):
                 classes = class_count(files)
                 self.look_at_words(workload)
                 self.look_at_limits(files, classes)
-                if workload.words[0] == "check":
+                if workload.words[0] in ("check", "simulate"):
                     self.look_at_evidence(files.get("plan", {}), classes)
                 self.assertEqual(CLASSES.get(name, classes), classes)
                 self.assertEqual(COUNTS.get(name, plan_counts(files)), plan_counts(files))
@@ -239,6 +263,17 @@ class AnswerTests(unittest.TestCase):
                 workload.write(pathlib.Path(folder))
                 done = subprocess.run([os.path.abspath(os.environ["PLANNER"]), *workload.words], cwd=folder, capture_output=True, text=True, check=False, timeout=60)
                 self.assertEqual(done.stdout, said)
+
+    def test_a_simulation_makes_the_named_events(self):
+        """The numbers of changes go up and down over powers of 2."""
+        for sizes, packets, start in itertools.product(([1, 1], [2, 2, 2, 2], [7, 7], [8, 8], [9, 9, 9, 9], [100, 100]), (0, 30), (0, 3, 2**64 - 5)):
+            words = [*workloads.SIMULATE[:-2], str(start), str(packets)]
+            workload = workloads.toggled_rules(len(sizes), workloads.ranked_rules(sizes[0], 1), words=words)
+            with self.subTest(words=words[-2:], sizes=sizes), tempfile.TemporaryDirectory() as folder:
+                workload.write(pathlib.Path(folder))
+                done = subprocess.run([os.path.abspath(os.environ["PLANNER"]), *words], cwd=folder, capture_output=True, text=True, check=True, timeout=60)
+                lines = [line for line in done.stdout.splitlines() if not line.startswith("#")]
+                self.assertEqual(["enter" if line.startswith("enter ") else line for line in lines], plain_run(sizes, packets, start))
 
 
 if __name__ == "__main__":

@@ -10,6 +10,8 @@ PLAN = ["plan", "topology.json", "old.json", "new.json", "policy.json"]
 PACK = ["pack", *PLAN[1:]]
 CHECK = ["check", "topology.json", "old.json", "new.json", "policy.json", "plan.json"]
 EXPLAIN = ["explain", *CHECK[1:]]
+# Runs with a hundred packets, whose events are named by 1.
+SIMULATE = ["simulate", *CHECK[1:], "1", "100"]
 # The greatest size of a topology and of a configuration, in bytes.
 GREATEST_FILE = 16 * 2**20
 
@@ -156,13 +158,14 @@ def two_below_all(rounds):
 
 # ---- rules that no packet meets
 
-def unmet(switches, rules, rounds):
-    """The check of a plan with these rounds, in a network where the first rule drops each packet. There are eight classes at most."""
+def unmet(switches, rules, rounds, words=CHECK):
+    """The check of a plan with these rounds, or what the words ask, in a network where the first rule drops each packet. There are eight classes at
+    most."""
     topology = {"switches": [{"name": f"r{i}", "capacity": 8192} for i in range(switches)], "links": [], "hosts": ["r0:1", "r0:2"],
                 "vlans": ["untagged"], "tags": []}
     config = {"rules": [{"switch": "r0", "priority": 16383, "dst": "0.0.0.0/0", "out": "drop"}]}
     plan = plan_text(rules, rounds, 8, [0] * switches)
-    return Workload(CHECK, topology=topology, old=config, new=config, policy={"demands": []}, plan=plan)
+    return Workload(words, topology=topology, old=config, new=config, policy={"demands": []}, plan=plan)
 
 
 def ranked_rules(count, switches):
@@ -177,10 +180,10 @@ def two_kinds(count):
     return [{"switch": "r0", "priority": 100, "out": "drop", **test} for test in tests]
 
 
-def toggled_rules(rounds, rules, switches=1):
+def toggled_rules(rounds, rules, switches=1, words=CHECK):
     """A plan in which the rules come in each odd round and go in each even one."""
     texts = [moves(word, range(len(rules))) for word in ("insert", "delete")]
-    return unmet(switches, rules, [texts[k % 2] for k in range(rounds)])
+    return unmet(switches, rules, [texts[k % 2] for k in range(rounds)], words)
 
 
 def grown_table(rounds, rules):
@@ -335,5 +338,9 @@ WORKLOADS = {
     "plan-chains": ("plan, 1056 classes with 512 chains", lambda: chains(PLAN, 1056)),
     "check-parallel": ("check, 31 parallel links between 16 switches, 8000 classes", lambda: parallel_links(16, 31)),
     "check-parallel-wide": ("check, 500 rules a switch over 31 parallel links between 16 switches, 8000 classes", lambda: parallel_links(16, 500)),
+    "simulate-ring": ("simulate, ring of 128 switches (508 rounds)", lambda: turned_ring(SIMULATE, 128, 4)),
+    "simulate-round": ("simulate, 2 rounds of 8190 changes at one switch", lambda: toggled_rules(2, ranked_rules(8190, 1), words=SIMULATE)),
+    "simulate-spread": ("simulate, 2 rounds of 1,048,320 changes at 128 switches",
+                        lambda: toggled_rules(2, ranked_rules(1_048_320, 128), 128, words=SIMULATE)),
     "explain-cycles": ("explain, 4 rounds in a ring of 128 switches, cycles of switches and no repeat, 1024 classes", lambda: either_way(128, 4)),
 }

@@ -8,8 +8,6 @@ use Rattle.std.proofs.lemmas.Bool.{ne_eqb, eq-eqb, true≢false}
 use Rattle.std.proofs.lemmas.List.{map-set}
 use Rattle.net_base.proofs.MemberLaws.{map-push}
 use Rattle.update_model.proofs.CountLaws.{goes_from}
-use Rattle.path_walk.specs.declared.Ended.{Ended}
-use Rattle.path_walk.specs.declared.Ended.TheVariants.{UnderWay, Left, Dropped, Lost}
 use Rattle.path_walk.specs.Paths.{outcome_in}
 use Rattle.update_model.specs.States.{IsUnderWay, IsHopping, settled_count, entered_packet, hopped_packet, lost_packet, with_packet}
 use Rattle.update_model.specs.Worlds.{WorldState, world_after}

@@ -5,4 +5,6 @@ pub mod EndLaws
 pub mod AgendaLaws
 pub mod OfferLaws
 pub mod DriveLaws
+pub mod CountLaws
+pub mod SafeLaws
 pub mod PlanLaws

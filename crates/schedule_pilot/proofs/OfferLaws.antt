@@ -33,7 +33,7 @@ module _ {A : Type 0} (P : A → Type 0) where
   those_append (x ∷ xs) (y ∷ ys) zs ws (inl h) b = inl (h.0, h.1, those_append xs ys zs ws h.2 b)
   those_append (x ∷ xs) (y ∷ ys) zs ws (inr h) b = inr (h.0, those_append xs (y ∷ ys) zs ws h.1 b)
 
-  those_all : (xs : List A) → AllByRecursion P xs → AreThose P xs xs
+  pub those_all : (xs : List A) → AllByRecursion P xs → AreThose P xs xs
   those_all [] all = tt
   those_all (x ∷ xs) all = inl (all.0, refl, those_all xs all.1)
 

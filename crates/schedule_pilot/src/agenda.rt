@@ -28,7 +28,7 @@ fn add_if_on(numbers: &mut Vec<usize>, number: usize, on: bool) -> Result<(), Me
 }
 
 /// The numbers of the flags that are on.
-fn numbers_of(alloc: Global, flags: &[bool]) -> Result<Vec<usize>, Memory>
+pub(crate) fn numbers_of(alloc: Global, flags: &[bool]) -> Result<Vec<usize>, Memory>
     ensures { IfOk result (λ v. v.items ≡ numbers_on 0 flags.now) }
 {
     let mut numbers = Vec::new(alloc);
@@ -46,7 +46,7 @@ fn is_under_way(packet: &Packet) -> bool
 }
 
 /// For each packet, whether it is under way.
-fn flags_of(alloc: Global, packets: &[Packet]) -> Result<Vec<bool>, Memory>
+pub(crate) fn flags_of(alloc: Global, packets: &[Packet]) -> Result<Vec<bool>, Memory>
     ensures { IfOk result (λ v. v.items ≡ map (λ p. goes_on p.ended) packets.now) }
 {
     let mut flags = Vec::new(alloc);
@@ -74,7 +74,7 @@ fn take_out(numbers: &mut Vec<usize>, i: usize)
 }
 
 /// Takes packet i out, if it has ended.
-fn take_ended(numbers: &mut Vec<usize>, packets: &[Packet], i: usize)
+pub(crate) fn take_ended(numbers: &mut Vec<usize>, packets: &[Packet], i: usize)
     ensures { (IsHopping packets.now i × (numbers.new.items ≡ numbers.old.items))
         ⊎ ((¬ IsHopping packets.now i)
         × (numbers.new.items ≡ numbers_without i numbers.old.items)) }
@@ -85,7 +85,7 @@ fn take_ended(numbers: &mut Vec<usize>, packets: &[Packet], i: usize)
 }
 
 /// Adds the last packet.
-fn add_last(numbers: &mut Vec<usize>, packets: &[Packet]) -> Result<(), Memory>
+pub(crate) fn add_last(numbers: &mut Vec<usize>, packets: &[Packet]) -> Result<(), Memory>
     requires { 1 ≤ length packets.now }
     ensures { OnOk result (numbers.new.items ≡ numbers.old.items ++ (length packets.now - 1) ∷ []) }
 {
@@ -94,7 +94,7 @@ fn add_last(numbers: &mut Vec<usize>, packets: &[Packet]) -> Result<(), Memory>
 }
 
 /// Makes an event that may happen.
-fn happen(world: &mut World, event: Event) -> Result<(), Memory>
+pub(crate) fn happen(world: &mut World, event: Event) -> Result<(), Memory>
     requires { IsEnabled world.old.net world.old.rounds world.old.state event }
     ensures { OnOk result (world.new ≡ world_after world.old event) }
 {

@@ -23,7 +23,7 @@ pub struct Driven<'a> {
 }
 
 /// How a driven run ends, if it ends here.
-fn ending_of(over: bool, offered: usize, made: u64, budget: u64) -> Option<Ending>
+pub(crate) fn ending_of(over: bool, offered: usize, made: u64, budget: u64) -> Option<Ending>
     ensures is { result ≡ ending_at over offered made budget }
     ensures goes_on { IfNone result ((1 ≤ offered) × (made ≢ budget)) }
 {
@@ -60,7 +60,7 @@ fn run_on<F: Fn(u64, u64) -> u64>(
     let mut made = 0;
     'steps: loop {
         let offered = offered_of(alloc, world, agenda, rest)?;
-        let over = is_over(world, agenda, rest);
+        let over = is_over(world, &agenda.under_way, rest);
         if let Some(ending) = ending_of(over, offered.len(), made, budget) {
             return Ok(ending);
         }

@@ -2,14 +2,18 @@
 #![tactic(auto)]
 
 mod agenda;
+mod counted;
 mod driving;
+mod flag_tree;
 pub mod laws;
 mod offers;
 mod pilot;
+mod safe_driving;
 
 pub use driving::{Driven, drive};
 use net_base::Place;
 pub use pilot::Pilot;
+pub use safe_driving::drive_safely;
 
 /// A packet that is still to come: the place where it enters, which is a host port with a declared VLAN, and its IPv4
 /// destination address.

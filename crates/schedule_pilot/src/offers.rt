@@ -168,12 +168,12 @@ fn are_none(entries: &[Entry], under_way: &[usize]) -> bool
     entries.is_empty() && under_way.is_empty()
 }
 
-/// Whether the run is over.
-pub(crate) fn is_over(world: &World, agenda: &Agenda, entries: &[Entry]) -> bool
-    requires { IsAgenda world.now.state agenda.now.pending.items agenda.now.under_way.items }
+/// Whether the run is over. The packets under way are told by their numbers.
+pub(crate) fn is_over(world: &World, under_way: &[usize], entries: &[Entry]) -> bool
+    requires { under_way.now ≡ numbers_under_way world.now.state.packets }
     ensures { IsTrue result ↔ IsOver (world_rollout world.now) world.now.state entries.now }
 {
-    is_settled(world.phase(), world.rounds().count()) && are_none(entries, &agenda.under_way)
+    is_settled(world.phase(), world.rounds().count()) && are_none(entries, under_way)
 }
 
 /// The entries that are still to come after an event.

@@ -20,7 +20,7 @@ use command_base::UpdateFiles;
 use dest_classes::ClassMap;
 use net_base::Memory;
 use schedule_pilot::laws::certified_begins_safely;
-use schedule_pilot::{Driven, Entry, Pilot, drive};
+use schedule_pilot::{Driven, Entry, Pilot, drive_safely};
 use schedule_replay::record_text;
 use std::alloc::Global;
 use topology::Net;
@@ -88,7 +88,7 @@ fn driven_by<'a>(
             ensures { result ≡ place_named start step count }
         { place_at(start, step, count) },
     );
-    drive(alloc, world, &pilot, entries, budget)
+    drive_safely(alloc, world, &pilot, entries, budget)
 }
 
 /// The record of a simulation of a certified plan, over so many packets of the classes.
