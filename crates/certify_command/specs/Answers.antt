@@ -20,7 +20,7 @@ use Rattle.round_judge.specs.Evidence.{IsSearchEvidence}
 use Rattle.round_certifier.specs.Refusals.{IsFirstRefusal}
 use Rattle.round_certifier.specs.Standing.{target_for}
 use Rattle.round_certifier.specs.declared.refusal.Refusal.{Refusal}
-use Rattle.certify_command.specs.Lines.{cause_line, class_of_cause}
+use Rattle.certify_command.specs.Lines.{uncertified_line, class_of_cause}
 
 -- the update with the evidence that its plan has
 abbrev pub case_in : CheckMeaning → CaseView
@@ -52,7 +52,7 @@ pub record IsCauseLine (m : CheckMeaning) (line : List ℕ) : Type 0 where
   pub first : IsFirstRefusal (case_in m) cause
   pub class : Option Class
   pub named : IsNamed (classes_for (task_in m)) (class_of_cause cause) class
-  pub line_is : line ≡ cause_line m.update.net class cause
+  pub line_is : line ≡ uncertified_line m.update.net class cause
 
 -- the answer of `certify`: too many classes; the text of a certified plan with these rounds; or why none has them
 abbrev pub IsCertifyAnswer : CheckMeaning → Answer → Type 0

@@ -17,7 +17,7 @@ abbrev pub no_evidence_line : Network → ℕ → Option Class → List ℕ
 no_evidence_line net round class = codes "no evidence: round " ++ decimal round ++ at_class net class ++ codes "\n"
 
 -- on rounds that no evidence certifies for this cause
-abbrev pub cause_line : Network → Option Class → Refusal → List ℕ
-cause_line net class (Checked reason) = refused_line net class reason
-cause_line net class TwoPhasePlan = codes "no evidence: two-phase plan\n"
-cause_line net class (NoEvidence round n) = no_evidence_line net round class
+abbrev pub uncertified_line : Network → Option Class → Refusal → List ℕ
+uncertified_line net class (Checked reason) = refused_line net class reason
+uncertified_line net class TwoPhasePlan = codes "no evidence: two-phase plan\n"
+uncertified_line net class (NoEvidence round n) = no_evidence_line net round class

@@ -65,13 +65,13 @@ fn no_evidence_line(
 }
 
 /// The line on rounds that no evidence certifies for a cause.
-pub(crate) fn cause_line(
+pub(crate) fn uncertified_line(
     alloc: Global,
     net: &Net,
     class: Option<Class>,
     cause: Refusal,
 ) -> Result<Vec<u8>, Memory>
-    ensures { IfOk result (λ t. t.items ≡ lines.cause_line net.now class cause) }
+    ensures { IfOk result (λ t. t.items ≡ lines.uncertified_line net.now class cause) }
 {
     match cause {
         Refusal::Checked(reason) => refused_line(alloc, net, class, reason),

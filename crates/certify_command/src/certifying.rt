@@ -13,9 +13,9 @@ ghost use Rattle.round_judge.specs.Evidence.{IsSearchEvidence};
 ghost use Rattle.round_certifier.specs.Refusals.{IsFirstRefusal, OfRefusal};
 ghost use Rattle.round_certifier.specs.Standing.{target_for};
 ghost use Rattle.certify_command.specs.Answers.{IsCertifiable, IsCertifiedText, IsCertifyAnswer, case_in};
-ghost use Rattle.certify_command.specs.Lines.{cause_line};
+ghost use Rattle.certify_command.specs.Lines.{uncertified_line};
 
-use crate::cause_lines::{cause_line, named_class};
+use crate::cause_lines::{uncertified_line, named_class};
 use certificates::laws::certified_consistent;
 use certificates::{OrderedEvidence, Plan};
 use check_reasons::Case;
@@ -63,11 +63,11 @@ fn cause_reply(
 ) -> Result<Reply, Memory>
     ensures { IfOk result
         (λ r. answer_of r
-        ≡ record { status = Status.Refused; text = cause_line net.now class cause }) }
+        ≡ record { status = Status.Refused; text = uncertified_line net.now class cause }) }
 {
     Ok(Reply {
         status: Status::Refused,
-        text: cause_line(alloc, net, class, cause)?,
+        text: uncertified_line(alloc, net, class, cause)?,
     })
 }
 

@@ -8,24 +8,24 @@ use Rattle.update_model.specs.Changes.{round_after}
 use Rattle.update_model.specs.declared.Change.{Change}
 use Rattle.update_model.specs.declared.Event.{Event}
 use Rattle.update_model.specs.declared.Event.TheVariants as event
-use Rattle.schedule_pilot.specs.Offered.{numbers_from_one}
+use Rattle.net_base.specs.Numbers.{numbers_from}
 use Rattle.counter_run.specs.Showing.{HopStep, step_events, whole_round, whole_rounds}
 use Rattle.counter_run.proofs.StageLaws.{flat_map_push}
 
-counted_more : (n count : ℕ) → numbers_from_one n (suc count) ≡ numbers_from_one n count ++ (n + count) ∷ []
+counted_more : (n count : ℕ) → numbers_from n (suc count) ≡ numbers_from n count ++ (n + count) ∷ []
 counted_more n zero = let e : n ≡ n + 0 = omega arith in ap (λ k. k ∷ []) e
 counted_more n (suc count) =
     let e : suc n + count ≡ n + suc count = omega arith in
-    ap (λ l. n ∷ l) (counted_more (suc n) count ∙ ap (λ k. numbers_from_one (suc n) count ++ k ∷ []) e)
+    ap (λ l. n ∷ l) (counted_more (suc n) count ∙ ap (λ k. numbers_from (suc n) count ++ k ∷ []) e)
 
 -- one more change of so many
-pub every_more : (i : ℕ) (old mid new : List Event) → mid ≡ old ++ map event.Change (numbers_from_one 0 i) → new ≡ mid ++ event.Change i ∷ []
-    → new ≡ old ++ map event.Change (numbers_from_one 0 (i + 1))
+pub every_more : (i : ℕ) (old mid new : List Event) → mid ≡ old ++ map event.Change (numbers_from 0 i) → new ≡ mid ++ event.Change i ∷ []
+    → new ≡ old ++ map event.Change (numbers_from 0 (i + 1))
 every_more i old mid new is next =
     let e : 0 + i ≡ i = omega arith in
-    let one_more : numbers_from_one 0 (i + 1) ≡ numbers_from_one 0 i ++ i ∷ [] = ap (numbers_from_one 0) (add-one i) ∙ counted_more 0 i ∙ ap (λ k. numbers_from_one 0 i ++ k ∷ []) e in
-    next ∙ ap (λ l. l ++ event.Change i ∷ []) is ∙ append_assoc old (map event.Change (numbers_from_one 0 i)) (event.Change i ∷ [])
-    ∙ ap (λ l. old ++ l) (sym (map-push event.Change (numbers_from_one 0 i) i)) ∙ ap (λ l. old ++ map event.Change l) (sym one_more)
+    let one_more : numbers_from 0 (i + 1) ≡ numbers_from 0 i ++ i ∷ [] = ap (numbers_from 0) (add-one i) ∙ counted_more 0 i ∙ ap (λ k. numbers_from 0 i ++ k ∷ []) e in
+    next ∙ ap (λ l. l ++ event.Change i ∷ []) is ∙ append_assoc old (map event.Change (numbers_from 0 i)) (event.Change i ∷ [])
+    ∙ ap (λ l. old ++ l) (sym (map-push event.Change (numbers_from 0 i) i)) ∙ ap (λ l. old ++ map event.Change l) (sym one_more)
 
 -- one more of these changes
 pub changes_more : (numbers : List ℕ) (i : ℕ) (old mid new : List Event) → i < length numbers → mid ≡ old ++ map event.Change (take i numbers)
@@ -44,10 +44,10 @@ rounds_more rounds k old mid new less is next =
     ∙ ap (λ l. old ++ l) (sym (flat_map_push whole_round (take k rounds) (round_after k rounds))) ∙ ap (λ l. old ++ whole_rounds l) (sym one_more)
 
 -- a start, events and a settling
-pub round_added : (round : List Change) (old first mid new : List Event) → first ≡ old ++ event.Start ∷ [] → mid ≡ first ++ map event.Change (numbers_from_one 0 (length round))
+pub round_added : (round : List Change) (old first mid new : List Event) → first ≡ old ++ event.Start ∷ [] → mid ≡ first ++ map event.Change (numbers_from 0 (length round))
     → new ≡ mid ++ event.Settle ∷ [] → new ≡ old ++ whole_round round
 round_added round old first mid new a b c =
-    let changes = map event.Change (numbers_from_one 0 (length round)) in
+    let changes = map event.Change (numbers_from 0 (length round)) in
     c ∙ ap (λ l. l ++ event.Settle ∷ []) (b ∙ ap (λ l. l ++ changes) a ∙ append_assoc old (event.Start ∷ []) changes) ∙ append_assoc old (event.Start ∷ changes) (event.Settle ∷ [])
 
 -- events, and a hop

@@ -21,7 +21,7 @@ use Rattle.update_model.specs.declared.Change.{Change}
 use Rattle.update_model.specs.declared.Event.TheVariants as event
 use Rattle.certificates.specs.Steps.{switches_along}
 use Rattle.outcome_changes.specs.Giving.{IsChangeAt}
-use Rattle.schedule_pilot.specs.Offered.{numbers_from_one}
+use Rattle.net_base.specs.Numbers.{numbers_from}
 use Rattle.schedule_pilot.proofs.VisitLaws.{walk_within}
 use Rattle.breaking_walks.specs.Breaking.{IsBreakingWalk}
 use Rattle.counter_run.specs.Showing.{HopStep, step_events, whole_rounds, AreFewFor}
@@ -37,7 +37,7 @@ at_or_above zero (suc b) h = inr (omega arith)
 at_or_above (suc a) zero h = absurd (omega arith)
 at_or_above (suc a) (suc b) h = elim (at_or_above a b (omega arith)) [ inl e ↦ inl (ap suc e) | inr g ↦ inr (omega arith) ]
 
-in_counted : (n count i : ℕ) → n ≤ i → i < n + count → IsIn i (numbers_from_one n count)
+in_counted : (n count i : ℕ) → n ≤ i → i < n + count → IsIn i (numbers_from n count)
 in_counted n zero i least less = absurd (omega arith)
 in_counted n (suc count) i least less = elim (at_or_above n i least) [ inl e ↦ inl e | inr h ↦ inr (in_counted (suc n) count i h (omega arith)) ]
 
@@ -115,7 +115,7 @@ module _ (u : Rollout) (k dst : ℕ) where
       distinct_members (λ (i : ℕ). i) (numbers_in steps)
       (distinct_flat_map (λ (i : ℕ). i) (λ s. s.changes) steps (distinct_members (λ s. s.place.switch) steps distinct)
       (λ s m. subst IsDistinct (sym (map_same s.changes)) (each_at (λ t. IsDistinct t.changes) steps s apart m)) told) in
-      let most = no_longer (numbers_in steps) (numbers_from_one 0 (length round)) once (λ i m.
+      let most = no_longer (numbers_in steps) (numbers_from 0 (length round)) once (λ i m.
       let (s, n, j) = in_from_flat_map (λ t. t.changes) i steps m in
       let here = at s i n j in
       let less = past_end round i here.change here.is in

@@ -19,7 +19,7 @@ use Rattle.update_model.specs.declared.Event.{Event}
 use Rattle.update_model.specs.declared.Event.TheVariants as event
 use Rattle.update_model.specs.declared.Phase.TheVariants.{Settled, Running}
 use Rattle.update_model.proofs.RoundLaws.{settled_start, settled_next}
-use Rattle.schedule_pilot.specs.Offered.{numbers_from_one}
+use Rattle.net_base.specs.Numbers.{numbers_from}
 use Rattle.counter_run.specs.Showing.{whole_round, whole_rounds}
 use Rattle.update_model.proofs.RestLaws.{good_rest}
 
@@ -67,7 +67,7 @@ module _ (net : Network) (rounds : List (List Change)) where
   -- the changes that are left of a running round, ascending, and its end
   changes_run : (k : ℕ) (cs : List Change) (n : ℕ) (tables : List (List Rule)) (done : List Bool)
       → ((i : ℕ) → slice_get (round_after k rounds) (n + i) ≡ slice_get cs i) → length done ≡ n → AllByRecursion (λ b. b ≡ false) done → IsGoodRound tables cs
-      → LeadsTo (running k tables (done ++ replicate (length cs) true)) (map event.Change (numbers_from_one n (length cs)) ++ event.Settle ∷ []) (suc k) (tables_after cs tables)
+      → LeadsTo (running k tables (done ++ replicate (length cs) true)) (map event.Change (numbers_from n (length cs)) ++ event.Settle ∷ []) (suc k) (tables_after cs tables)
   changes_run k [] n tables done there same off good =
       ((record { k = suc k; running = refl; none_pending = each_append (λ b. b ≡ false) done [] off tt }, tt), (done ++ [], refl))
   changes_run k (c ∷ cs) n tables done there same off good =
@@ -81,8 +81,8 @@ module _ (net : Network) (rounds : List (List Change)) where
       let rest = changes_run k cs (suc n) next on
       (λ i. let e : suc n + i ≡ n + suc i = omega arith in ap (slice_get (round_after k rounds)) e ∙ there (suc i))
       (let l = length-append done (false ∷ []) in omega arith) (each_append (λ b. b ≡ false) done (false ∷ []) off (refl, tt)) (good_rest tables c cs good) in
-      let after : LeadsTo (state_after_event net rounds (running k tables flags) (event.Change n)) (map event.Change (numbers_from_one (suc n) (length cs)) ++ event.Settle ∷ []) (suc k) (tables_after cs next) =
-      subst (λ (s : State). LeadsTo s (map event.Change (numbers_from_one (suc n) (length cs)) ++ event.Settle ∷ []) (suc k) (tables_after cs next)) (sym step) rest in (
+      let after : LeadsTo (state_after_event net rounds (running k tables flags) (event.Change n)) (map event.Change (numbers_from (suc n) (length cs)) ++ event.Settle ∷ []) (suc k) (tables_after cs next) =
+      subst (λ (s : State). LeadsTo s (map event.Change (numbers_from (suc n) (length cs)) ++ event.Settle ∷ []) (suc k) (tables_after cs next)) (sym step) rest in (
         (record { k = k; running = refl; change = c; is = here; pending = get_seam done true (replicate (length cs) true) n same; applies = good.applies.0 }, after.0),
         after.1,
       )
@@ -116,14 +116,14 @@ whole_rounds_run u good (suc k) within =
     (whole_rounds_run u good k (omega arith)) (λ flags. round_run u.net u.rounds k less before flags (good k less))))
 
 -- how many events there are in them
-pub length-counted : (n count : ℕ) → length (numbers_from_one n count) ≡ count
+pub length-counted : (n count : ℕ) → length (numbers_from n count) ≡ count
 length-counted n zero = refl
 length-counted n (suc count) = ap suc (length-counted (suc n) count)
 
 length-whole_round : (round : List Change) → length (whole_round round) ≡ length round + 2
 length-whole_round round =
-    let a = length-append (map event.Change (numbers_from_one 0 (length round))) (event.Settle ∷ []) in
-    let b = length-map (numbers_from_one 0 (length round)) event.Change in
+    let a = length-append (map event.Change (numbers_from 0 (length round))) (event.Settle ∷ []) in
+    let b = length-map (numbers_from 0 (length round)) event.Change in
     let d = length-counted 0 (length round) in
     omega arith
 
@@ -156,4 +156,4 @@ pub rounds_of_none : (rounds : List (List Change)) → AllByRecursion IsOfNoPack
 rounds_of_none [] = tt
 rounds_of_none (round ∷ rounds) =
     each_append IsOfNoPacket (whole_round round) (whole_rounds rounds)
-    (tt, each_append IsOfNoPacket (map event.Change (numbers_from_one 0 (length round))) (event.Settle ∷ []) (changes_of_none (numbers_from_one 0 (length round))) (tt, tt)) (rounds_of_none rounds)
+    (tt, each_append IsOfNoPacket (map event.Change (numbers_from 0 (length round))) (event.Settle ∷ []) (changes_of_none (numbers_from 0 (length round))) (tt, tt)) (rounds_of_none rounds)

@@ -16,7 +16,7 @@ use Rattle.update_model.specs.declared.Event.{Event}
 use Rattle.update_model.specs.declared.Event.TheVariants as event
 use Rattle.update_model.specs.declared.Packet.{Packet}
 use Rattle.certificates.specs.Consistent.{trace_of}
-use Rattle.schedule_pilot.specs.Offered.{numbers_from_one}
+use Rattle.net_base.specs.Numbers.{numbers_from}
 use Rattle.outcome_changes.specs.Giving.{IsChangeAt}
 use Rattle.breaking_walks.specs.Rounds.{round_rollout}
 use Rattle.counter_run.specs.declared.showing.ShownRound.{ShownRound}
@@ -32,7 +32,7 @@ step_events s = map event.Change s.changes ++ event.Hop 0 ∷ []
 
 -- a round that is carried out whole, its changes ascending
 abbrev pub whole_round : List Change → List Event
-whole_round round = event.Start ∷ map event.Change (numbers_from_one 0 (length round)) ++ event.Settle ∷ []
+whole_round round = event.Start ∷ map event.Change (numbers_from 0 (length round)) ++ event.Settle ∷ []
 
 -- such rounds, one after the other
 abbrev pub whole_rounds : List (List Change) → List Event

@@ -6,7 +6,7 @@ ghost use Rattle.flow_rules.specs.Tables.{rules_of_all};
 ghost use Rattle.demands.specs.Duties.{duties_of};
 ghost use Rattle.update_model.specs.Changes.{round_after};
 ghost use Rattle.update_model.specs.Mixtures.{AreGoodRounds, AreClearRounds, IsPossible, IsMixedWalk, tables_before};
-ghost use Rattle.schedule_pilot.specs.Offered.{numbers_from_one};
+ghost use Rattle.net_base.specs.Numbers.{numbers_from};
 ghost use Rattle.breaking_walks.specs.Breaking.{IsBreakingWalk};
 ghost use Rattle.counter_run.specs.Showing.{IsBreakingRun, AreFewFor, shown_rollout, whole_round, whole_rounds};
 ghost use Rattle.counter_run.specs.Steps.{IsStage, GoOnAlong, GoOnBy};
@@ -30,7 +30,7 @@ pub(crate) struct ShownRound<'a> {
 
 /// Adds changes by their numbers, so many from 0 on.
 fn add_every(events: &mut Events, count: usize) -> Result<(), Memory>
-    ensures { OnOk result (events.new ≡ events.old ++ map Event.Change (numbers_from_one 0 count)) }
+    ensures { OnOk result (events.new ≡ events.old ++ map Event.Change (numbers_from 0 count)) }
 {
     for i in 0..count {
         events.add(Event::Change(i))?;

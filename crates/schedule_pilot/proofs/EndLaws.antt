@@ -21,7 +21,8 @@ use Rattle.update_model.specs.declared.Phase.TheVariants.{Settled, Running}
 use Rattle.update_model.specs.declared.Event.{Event}
 use Rattle.update_model.specs.declared.Event.TheVariants as event
 use Rattle.update_model.proofs.OneRoundLaws.{Sound, TablesAre, IsSound, IsAdmitted, sound_after, first_sound}
-use Rattle.schedule_pilot.specs.Offered.{numbers_from_one, next_entry, candidates, AreThose, AreOffered, entries_after, IsDriven, IsOver, full_budget}
+use Rattle.net_base.specs.Numbers.{numbers_from}
+use Rattle.schedule_pilot.specs.Offered.{next_entry, candidates, AreThose, AreOffered, entries_after, IsDriven, IsOver, full_budget}
 use Rattle.schedule_pilot.specs.Ends.{VisitsOnce, AllVisitOnce, AreEntries, entries_left}
 use Rattle.schedule_pilot.specs.declared.Entry.{Entry}
 use Rattle.schedule_pilot.proofs.PendingLaws.{pending_applies, same_count}
@@ -48,32 +49,32 @@ none_from : {A : Type 0} (P : A → Type 0) (xs : List A) → ((x : A) → IsIn 
 none_from P [] f = tt
 none_from P (x ∷ xs) f = (f x (inl refl), none_from P xs (λ y i. f y (inr i)))
 
-in_counted : (n count i : ℕ) → i < count → IsIn (n + i) (numbers_from_one n count)
+in_counted : (n count i : ℕ) → i < count → IsIn (n + i) (numbers_from n count)
 in_counted n zero i less = absurd (omega arith)
 in_counted n (suc count) zero less = inl (omega arith)
-in_counted n (suc count) (suc i) less = inr (let e : suc n + i ≡ n + suc i = omega arith in subst (λ k. IsIn k (numbers_from_one (suc n) count)) e (in_counted (suc n) count i (omega arith)))
+in_counted n (suc count) (suc i) less = inr (let e : suc n + i ≡ n + suc i = omega arith in subst (λ k. IsIn k (numbers_from (suc n) count)) e (in_counted (suc n) count i (omega arith)))
 
 -- the changes and the hops among the candidates
 abbrev changes_of : State → List Event
-changes_of st = map event.Change (numbers_from_one 0 (length st.pending))
+changes_of st = map event.Change (numbers_from 0 (length st.pending))
 
 abbrev hops_of : State → List Event
-hops_of st = map event.Hop (numbers_from_one 0 (length st.packets))
+hops_of st = map event.Hop (numbers_from 0 (length st.packets))
 
 -- an event among the candidates
 module _ (st : State) (entries : List Entry) where
   change_in : (i : ℕ) → i < length st.pending → IsIn (event.Change i) (candidates st entries)
   change_in i less =
       let e : 0 + i ≡ i = omega arith in
-      let here : IsIn i (numbers_from_one 0 (length st.pending)) = subst (λ k. IsIn k (numbers_from_one 0 (length st.pending))) e (in_counted 0 (length st.pending) i less) in
+      let here : IsIn i (numbers_from 0 (length st.pending)) = subst (λ k. IsIn k (numbers_from 0 (length st.pending))) e (in_counted 0 (length st.pending) i less) in
       inr (inr (in_append_left (event.Change i) (changes_of st ++ next_entry entries) (hops_of st)
-      (in_append_left (event.Change i) (changes_of st) (next_entry entries) (in_map event.Change i (numbers_from_one 0 (length st.pending)) here))))
+      (in_append_left (event.Change i) (changes_of st) (next_entry entries) (in_map event.Change i (numbers_from 0 (length st.pending)) here))))
 
   hop_in : (i : ℕ) → i < length st.packets → IsIn (event.Hop i) (candidates st entries)
   hop_in i less =
       let e : 0 + i ≡ i = omega arith in
-      let here : IsIn i (numbers_from_one 0 (length st.packets)) = subst (λ k. IsIn k (numbers_from_one 0 (length st.packets))) e (in_counted 0 (length st.packets) i less) in
-      inr (inr (in_append_right (event.Hop i) (changes_of st ++ next_entry entries) (hops_of st) (in_map event.Hop i (numbers_from_one 0 (length st.packets)) here)))
+      let here : IsIn i (numbers_from 0 (length st.packets)) = subst (λ k. IsIn k (numbers_from 0 (length st.packets))) e (in_counted 0 (length st.packets) i less) in
+      inr (inr (in_append_right (event.Hop i) (changes_of st ++ next_entry entries) (hops_of st) (in_map event.Hop i (numbers_from 0 (length st.packets)) here)))
 
   -- an entry that is a candidate is the next one
   enter_next : (place : Place) (dst : ℕ) → IsIn (event.Enter place dst) (candidates st entries) → IsIn (event.Enter place dst) (next_entry entries)
@@ -82,10 +83,10 @@ module _ (st : State) (entries : List Entry) where
   enter_next place dst (inr (inr i)) =
       elim (in_append_cases (event.Enter place dst) (changes_of st ++ next_entry entries) (hops_of st) i) [
         | inl j ↦ elim (in_append_cases (event.Enter place dst) (changes_of st) (next_entry entries) j) [
-          | inl k ↦ absurd (let (h, m, e) = in_from_map event.Change (event.Enter place dst) (numbers_from_one 0 (length st.pending)) k in let f : event.Enter place dst ≡ event.Change h = e in cc)
+          | inl k ↦ absurd (let (h, m, e) = in_from_map event.Change (event.Enter place dst) (numbers_from 0 (length st.pending)) k in let f : event.Enter place dst ≡ event.Change h = e in cc)
           | inr k ↦ k
         ]
-        | inr j ↦ absurd (let (h, m, e) = in_from_map event.Hop (event.Enter place dst) (numbers_from_one 0 (length st.packets)) j in let f : event.Enter place dst ≡ event.Hop h = e in cc)
+        | inr j ↦ absurd (let (h, m, e) = in_from_map event.Hop (event.Enter place dst) (numbers_from 0 (length st.packets)) j in let f : event.Enter place dst ≡ event.Hop h = e in cc)
       ]
 
   lose_none : (i : ℕ) → IsIn (event.Lose i) (candidates st entries) → ⊥
@@ -94,10 +95,10 @@ module _ (st : State) (entries : List Entry) where
   lose_none i (inr (inr j)) =
       elim (in_append_cases (event.Lose i) (changes_of st ++ next_entry entries) (hops_of st) j) [
         | inl k ↦ elim (in_append_cases (event.Lose i) (changes_of st) (next_entry entries) k) [
-          | inl h ↦ (let (g, m, e) = in_from_map event.Change (event.Lose i) (numbers_from_one 0 (length st.pending)) h in let f : event.Lose i ≡ event.Change g = e in cc)
+          | inl h ↦ (let (g, m, e) = in_from_map event.Change (event.Lose i) (numbers_from 0 (length st.pending)) h in let f : event.Lose i ≡ event.Change g = e in cc)
           | inr h ↦ lose_next entries h
         ]
-        | inr k ↦ (let (g, m, e) = in_from_map event.Hop (event.Lose i) (numbers_from_one 0 (length st.packets)) k in let f : event.Lose i ≡ event.Hop g = e in cc)
+        | inr k ↦ (let (g, m, e) = in_from_map event.Hop (event.Lose i) (numbers_from 0 (length st.packets)) k in let f : event.Lose i ≡ event.Hop g = e in cc)
       ]
     where
       lose_next : (es : List Entry) → IsIn (event.Lose i) (next_entry es) → ⊥

@@ -12,7 +12,8 @@ use Rattle.update_model.specs.declared.Event.TheVariants as event
 use Rattle.update_model.specs.declared.Packet.{Packet}
 use Rattle.update_model.specs.declared.Phase.{Phase}
 use Rattle.update_model.specs.declared.Phase.TheVariants.{Settled, Running}
-use Rattle.schedule_pilot.specs.Offered.{numbers_from_one, next_entry, candidates, AreThose, AreOffered, IsOver}
+use Rattle.net_base.specs.Numbers.{numbers_from}
+use Rattle.schedule_pilot.specs.Offered.{next_entry, candidates, AreThose, AreOffered, IsOver}
 use Rattle.schedule_pilot.specs.Ends.{AreEntries}
 use Rattle.update_model.specs.Worlds.{goes_on}
 use Rattle.schedule_pilot.specs.Agendas.{numbers_on, numbers_under_way, IsAgenda, AddsThose}
@@ -39,7 +40,7 @@ module _ {A : Type 0} (P : A → Type 0) where
 
 -- of so many events of one kind, those whose flag is off may be left out, where none of them may happen
 those_counted : (P : Event → Type 0) (f : ℕ → Event) (n : ℕ) (flags : List Bool) (ys : List Event) → ((i : ℕ) → P (f (n + i)) → slice_get flags i ≡ Some true)
-    → AreThose P (map f (numbers_on n flags)) ys → AreThose P (map f (numbers_from_one n (length flags))) ys
+    → AreThose P (map f (numbers_on n flags)) ys → AreThose P (map f (numbers_from n (length flags))) ys
 those_counted P f n [] ys on those = those
 those_counted P f n (true ∷ flags) ys on those = head ys (those_counted P f (suc n) flags) those
   where
@@ -47,13 +48,13 @@ those_counted P f n (true ∷ flags) ys on those = head ys (those_counted P f (s
     next i may = let e : suc n + i ≡ n + suc i = omega arith in on (suc i) (subst (λ k. P (f k)) e may)
 
     head : (zs : List Event)
-        → ((ws : List Event) → ((i : ℕ) → P (f (suc n + i)) → slice_get flags i ≡ Some true) → AreThose P (map f (numbers_on (suc n) flags)) ws → AreThose P (map f (numbers_from_one (suc n) (length flags))) ws)
-        → AreThose P (f n ∷ map f (numbers_on (suc n) flags)) zs → AreThose P (f n ∷ map f (numbers_from_one (suc n) (length flags))) zs
+        → ((ws : List Event) → ((i : ℕ) → P (f (suc n + i)) → slice_get flags i ≡ Some true) → AreThose P (map f (numbers_on (suc n) flags)) ws → AreThose P (map f (numbers_from (suc n) (length flags))) ws)
+        → AreThose P (f n ∷ map f (numbers_on (suc n) flags)) zs → AreThose P (f n ∷ map f (numbers_from (suc n) (length flags))) zs
     head [] rest h = (h.0, rest [] next h.1)
     head (z ∷ zs) rest (inl h) = inl (h.0, h.1, rest zs next h.2)
     head (z ∷ zs) rest (inr h) = inr (h.0, rest (z ∷ zs) next h.1)
 those_counted P f n (false ∷ flags) ys on those =
-    those_skip P (f n) (map f (numbers_from_one (suc n) (length flags))) ys
+    those_skip P (f n) (map f (numbers_from (suc n) (length flags))) ys
     (λ may. let e : n ≡ n + 0 = omega arith in let g : Some false ≡ Some true = on 0 (subst (λ k. P (f k)) e may) in let h : false ≡ true = cc in true≢false (sym h))
     (those_counted P f (suc n) flags ys (λ i may. let e : suc n + i ≡ n + suc i = omega arith in on (suc i) (subst (λ k. P (f k)) e may)) those)
 
@@ -84,7 +85,7 @@ module _ (u : Rollout) (st : State) (entries : List Entry) (pending under_way : 
   May = IsEnabled u.net u.rounds st
 
   -- the changes whose flag is on stand for all changes
-  changes_all : (old now : List Event) → AddsThose May (map event.Change pending) old now → AddsThose May (map event.Change (numbers_from_one 0 (length st.pending))) old now
+  changes_all : (old now : List Event) → AddsThose May (map event.Change pending) old now → AddsThose May (map event.Change (numbers_from 0 (length st.pending))) old now
   changes_all old now adds = (
     adds.0,
     those_counted May event.Change 0 st.pending adds.0 on (subst (λ l. AreThose May (map event.Change l) adds.0) kept.pending_are adds.1),
@@ -119,9 +120,9 @@ module _ (u : Rollout) (st : State) (entries : List Entry) (pending under_way : 
   length_flags [] = refl
   length_flags (p ∷ packets) = ap suc (length_flags packets)
 
-  hops_all : AreThose May (map event.Hop (numbers_from_one 0 (length st.packets))) (map event.Hop under_way)
+  hops_all : AreThose May (map event.Hop (numbers_from 0 (length st.packets))) (map event.Hop under_way)
   hops_all =
-      subst (λ k. AreThose May (map event.Hop (numbers_from_one 0 k)) (map event.Hop under_way)) (length_flags st.packets)
+      subst (λ k. AreThose May (map event.Hop (numbers_from 0 k)) (map event.Hop under_way)) (length_flags st.packets)
       (those_counted May event.Hop 0 (map (λ q. goes_on q.ended) st.packets) (map event.Hop under_way) on
       (subst (λ l. AreThose May (map event.Hop (numbers_under_way st.packets)) (map event.Hop l)) (sym kept.under_way_are)
       (those_all May (map event.Hop (numbers_under_way st.packets)) (hops_may 0 st.packets may))))
@@ -136,8 +137,8 @@ module _ (u : Rollout) (st : State) (entries : List Entry) (pending under_way : 
   pub offered_are : (empty first second third fourth last : List Event) → empty ≡ [] → AddsThose May (event.Start ∷ []) empty first → AddsThose May (event.Settle ∷ []) first second
       → AddsThose May (map event.Change pending) second third → fourth ≡ third ++ next_entry entries → last ≡ fourth ++ map event.Hop under_way → AreOffered u st entries last
   offered_are empty first second third fourth last none start settle changes enter hops =
-      let changed : List Event = map event.Change (numbers_from_one 0 (length st.pending)) in
-      let hopped : List Event = map event.Hop (numbers_from_one 0 (length st.packets)) in
+      let changed : List Event = map event.Change (numbers_from 0 (length st.pending)) in
+      let hopped : List Event = map event.Hop (numbers_from 0 (length st.packets)) in
       let two = adds_next May (event.Start ∷ []) (event.Settle ∷ []) empty first second start settle in
       let three = adds_next May (event.Start ∷ event.Settle ∷ []) changed empty second third two (changes_all second third changes) in
       let entered : AddsThose May (next_entry entries) third fourth = (next_entry entries, those_all May (next_entry entries) (entry_added entries are), enter) in

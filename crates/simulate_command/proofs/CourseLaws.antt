@@ -22,7 +22,8 @@ use Rattle.update_model.specs.declared.Packet.{Packet}
 use Rattle.update_model.specs.declared.Event.{Event}
 use Rattle.update_model.specs.declared.Event.TheVariants as event
 use Rattle.schedule_pilot.specs.Driving.{IsRunFrom, world_rollout}
-use Rattle.schedule_pilot.specs.Offered.{numbers_from_one, next_entry, candidates, AreThose, entries_after, IsDriven}
+use Rattle.net_base.specs.Numbers.{numbers_from}
+use Rattle.schedule_pilot.specs.Offered.{next_entry, candidates, AreThose, entries_after, IsDriven}
 use Rattle.schedule_pilot.specs.declared.Entry.{Entry}
 use Rattle.schedule_replay.specs.EventTexts.{HasLine}
 
@@ -63,7 +64,7 @@ those_few P (x ∷ xs) [] those = omega arith
 those_few P (x ∷ xs) (y ∷ ys) (inl h) = let rest : length ys ≤ length xs = those_few P xs ys h.2 in omega arith
 those_few P (x ∷ xs) (y ∷ ys) (inr h) = let rest : length (y ∷ ys) ≤ length xs = those_few P xs (y ∷ ys) h.1 in omega arith
 
-counted_length : (f : ℕ → Event) (n count : ℕ) → length (map f (numbers_from_one n count)) ≡ count
+counted_length : (f : ℕ → Event) (n count : ℕ) → length (map f (numbers_from n count)) ≡ count
 counted_length f n zero = refl
 counted_length f n (suc count) = ap suc (counted_length f (suc n) count)
 
@@ -79,7 +80,7 @@ parts_length a b c =
 
 candidates_few : (st : State) (entries : List Entry) → length (candidates st entries) ≤ length st.pending + length st.packets + 3
 candidates_few st entries =
-    let all = parts_length (map event.Change (numbers_from_one 0 (length st.pending))) (next_entry entries) (map event.Hop (numbers_from_one 0 (length st.packets))) in
+    let all = parts_length (map event.Change (numbers_from 0 (length st.pending))) (next_entry entries) (map event.Hop (numbers_from 0 (length st.packets))) in
     let changes = counted_length event.Change 0 (length st.pending) in
     let hops = counted_length event.Hop 0 (length st.packets) in
     let next = next_few entries in

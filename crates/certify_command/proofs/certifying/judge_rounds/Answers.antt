@@ -5,7 +5,7 @@ use Rattle.command_base.specs.Updates.{meaning_of}
 use Rattle.check_base.specs.Checks.{CheckMeaning, IsNamed}
 use Rattle.round_certifier.specs.Refusals.{IsFirstRefusal, OfRefusal}
 use Rattle.certify_command.specs.Answers.{IsCertifiable, case_in}
-use Rattle.certify_command.specs.Lines.{cause_line, class_of_cause}
+use Rattle.certify_command.specs.Lines.{uncertified_line, class_of_cause}
 use Rattle.certify_command.proofs.CauseLaws.{cause_fits}
 use Rattle.certify_command.proofs.certifying.judge_rounds.Goals as goal
 
@@ -24,7 +24,7 @@ returns-in-Err-Refused c =
     (λ r is. inr (inr (record {
       few = c.requires.fits.classed.few;
       fails = subst (OfRefusal (λ _. ¬ IsCertifiable m)) c.in-Err-Refused.field-0-is c.in-Err-Refused.ensures.none;
-      line = cause_line c.args.files.now.net c.named_class-class.result c.in-Err-Refused.cause;
+      line = uncertified_line c.args.files.now.net c.named_class-class.result c.in-Err-Refused.cause;
       is_why = record {
         cause = c.in-Err-Refused.cause;
         first = subst (OfRefusal (IsFirstRefusal (case_in m))) c.in-Err-Refused.field-0-is c.in-Err-Refused.ensures.refused;
