@@ -15,7 +15,7 @@ ghost use Rattle.round_certifier.specs.Standing.{target_for};
 ghost use Rattle.certify_command.specs.Answers.{IsCertifiable, IsCertifiedText, IsCertifyAnswer, case_in};
 ghost use Rattle.certify_command.specs.Lines.{uncertified_line};
 
-use crate::cause_lines::{uncertified_line, named_class};
+use crate::cause_lines::{named_class, uncertified_line};
 use certificates::laws::certified_consistent;
 use certificates::{OrderedEvidence, Plan};
 use check_reasons::Case;
