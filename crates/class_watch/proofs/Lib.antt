@@ -2,3 +2,4 @@ pub mod ListLaws
 pub mod LookedLaws
 pub mod CoveringLaws
 pub mod StandLaws
+pub mod MarkLaws

@@ -2,3 +2,4 @@ pub mod Classes
 pub mod Looked
 pub mod Walks
 pub mod Alike
+pub mod Judges

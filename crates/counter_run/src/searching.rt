@@ -24,10 +24,11 @@ use crate::showing::ShownRound;
 use crate::update::ClassedUpdate;
 use breaking_walks::PreparedRound;
 use check_reasons::is_touched;
+use class_watch::ClassRounds;
 use demands::Duties;
 use dest_classes::ClassMap;
 use net_base::Memory;
-use round_survey::{RoundSurvey, keep_vlans};
+use round_survey::{keep_vlans, survey_round};
 use round_tables::PreparedTables;
 use std::alloc::Global;
 use update_model::{Change, Events};
@@ -62,7 +63,7 @@ fn mark_good(
     stage: ShownRound<'_>,
     duties: &Duties,
     classes: &ClassMap,
-    survey: &mut RoundSurvey,
+    survey: &mut ClassRounds,
     by_survey: bool,
 ) -> Result<(), Memory>
     requires stage { IsStage stage }
@@ -83,7 +84,7 @@ fn mark_good(
         stage.entry.round.number classes.now survey.new.good.items) }
 {
     if by_survey {
-        return survey.look(alloc, stage.round, duties, classes);
+        return survey_round(survey, alloc, stage.round, duties, classes);
     }
     mark_unchanged(&mut survey.good, stage, duties, classes);
     Ok(())
@@ -96,7 +97,7 @@ fn search_round(
     update: ClassedUpdate<'_>,
     k: usize,
     tables: &PreparedTables,
-    survey: &mut RoundSurvey,
+    survey: &mut ClassRounds,
     by_survey: bool,
 ) -> Result<Option<Events>, Memory>
     requires classed { IsClassed update }
@@ -162,7 +163,7 @@ fn search_each(
     alloc: Global,
     update: ClassedUpdate<'_>,
     tables: &mut PreparedTables,
-    survey: &mut RoundSurvey,
+    survey: &mut ClassRounds,
     keeps_vlans: bool,
 ) -> Result<Explained, Memory>
     requires classed { IsClassed update }
@@ -201,7 +202,7 @@ pub(crate) fn search_rounds(alloc: Global, update: ClassedUpdate<'_>) -> Result<
 {
     let keeps_vlans = keep_vlans(update.net, update.old, update.rounds);
     let mut tables = make(alloc, update)?;
-    let mut survey = RoundSurvey::make(alloc, update.classes)?;
+    let mut survey = ClassRounds::make(alloc, update.classes)?;
     let found = search_each(alloc, update, &mut tables, &mut survey, keeps_vlans);
     drop(survey);
     drop(tables);

@@ -1,13 +1,12 @@
 -- What is written of a driver: what it sent, which sessions failed, its log and how far the update is.
 use Rattle.std.specs.Prelude.{ℕ, suc, ◌+◌, List, [], ◌∷◌, ◌++◌, map, length, codes}
-use Rattle.hex.specs.Hex.{encode_lower}
 use Rattle.topology.specs.Networks.{Network}
 use Rattle.update_model.specs.declared.Change.{Change}
 use Rattle.schedule_replay.specs.EventTexts.{event_text, schedule_text}
 use Rattle.net_base.specs.Lines.{text_of}
 use Rattle.schedule_replay.specs.Traces.{phase_line}
 use Rattle.round_messages.specs.Requests.{switch_numbered}
-use Rattle.switch_session.specs.Causes.{cause_text}
+use Rattle.switch_session.specs.Lines.{bytes_line, cause_line}
 use Rattle.switch_session.specs.declared.Cause.{Cause}
 use Rattle.switch_session.specs.declared.Session.{Session}
 use Rattle.switch_session.specs.declared.Session.TheVariants.{Waiting, Open, Failed}
@@ -15,11 +14,11 @@ use Rattle.update_driver.specs.Drivers.{DriverState, channel_at}
 
 -- all bytes that were sent to a switch of this name: `# sent SWITCH HEX`
 abbrev pub sent_line : List ℕ → List ℕ → List ℕ
-sent_line name bytes = codes "# sent " ++ name ++ codes " " ++ encode_lower bytes
+sent_line name bytes = bytes_line (codes "# sent ") name bytes
 
 -- a session that failed, with a switch of this name: `# failed SWITCH CAUSE`
 abbrev pub failed_line : List ℕ → Cause → List ℕ
-failed_line name c = codes "# failed " ++ name ++ codes " " ++ cause_text c
+failed_line name c = cause_line (codes "# failed ") name c
 
 -- the line on a session, if it failed
 abbrev pub session_lines : List ℕ → Session → List (List ℕ)

@@ -4,32 +4,12 @@ ghost use Rattle.topology.specs.Networks.{switch_count};
 ghost use Rattle.net_base.specs.Lines.{text_of};
 ghost use Rattle.drive_command.specs.Reports as reports;
 
-use hex::encode;
 use net_base::{Memory, SwitchId};
 use schedule_replay::{add_line, events_text, phase_line, switch_text};
 use std::alloc::Global;
-use switch_session::cause_text;
+use switch_session::{bytes_line, cause_line};
 use topology::Net;
-use update_driver::{Cause, Driver, Session};
-
-/// The line on what was sent to a switch of this name.
-fn sent_line(alloc: Global, name: &str, bytes: &[u8]) -> Result<Vec<u8>, Memory>
-    ensures { IfOk result (λ t. t.items ≡ reports.sent_line name.now bytes.now) }
-{
-    let digits = encode(alloc, bytes)?;
-    let mut text = format!(in alloc; "# sent {name} ")?.into_bytes();
-    text.extend_from_slice(digits.as_bytes())?;
-    Ok(text)
-}
-
-/// The line on a session that failed, with a switch of this name.
-fn failed_line(alloc: Global, name: &str, cause: Cause) -> Result<Vec<u8>, Memory>
-    ensures { IfOk result (λ t. t.items ≡ reports.failed_line name.now cause) }
-{
-    let mut text = format!(in alloc; "# failed {name} ")?.into_bytes();
-    text.extend_from_slice(&cause_text(alloc, cause)?)?;
-    Ok(text)
-}
+use update_driver::{Driver, Session};
 
 /// Adds the line on a session, if it failed.
 fn add_session(
@@ -43,7 +23,7 @@ fn add_session(
 {
     match session {
         Session::Waiting | Session::Open => Ok(()),
-        Session::Failed(cause) => add_line(text, &failed_line(alloc, name, cause)?),
+        Session::Failed(cause) => add_line(text, &cause_line(alloc, "# failed ", name, cause)?),
     }
 }
 
@@ -56,7 +36,12 @@ fn add_sent(text: &mut Vec<u8>, alloc: Global, net: &Net, driver: &Driver<'_>) -
 {
     for number in 0..net.switches() {
         let switch = SwitchId(number);
-        let line = sent_line(alloc, switch_text(net, switch), driver.sent(switch))?;
+        let line = bytes_line(
+            alloc,
+            "# sent ",
+            switch_text(net, switch),
+            driver.sent(switch),
+        )?;
         add_line(text, &line)?;
     }
     Ok(())

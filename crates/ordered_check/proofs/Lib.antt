@@ -6,6 +6,5 @@ pub mod GuardedLaws
 pub mod JudgeLaws
 pub mod RoundLaws
 pub mod StandLaws
-pub mod KeptLaws
 pub mod TogetherLaws
 pub mod LookedLaws

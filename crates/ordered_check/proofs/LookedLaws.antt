@@ -8,34 +8,24 @@ use Rattle.std.proofs.lemmas.Nat.{mod_below}
 use Rattle.std.proofs.lemmas.Option.{slice_get_within}
 use Rattle.net_base.specs.Members.{IsIn}
 use Rattle.net_base.proofs.MemberLaws.{each_at, in_append_cases}
-use Rattle.path_walk.specs.UserConfigs.{IsUserConfig}
 use Rattle.dest_classes.specs.Classes.{IsClass, class_count, atom_count}
 use Rattle.dest_classes.specs.declared.Class.{Class}
 use Rattle.dest_classes.proofs.MapLaws.{some_atom}
 use Rattle.update_model.specs.Changes.{round_after}
 use Rattle.update_model.specs.declared.Change.{Change}
-use Rattle.round_mix.specs.Prepared.{MixedState}
-use Rattle.certificates.specs.Ordered.{IsPickInForce, OrderedCertificate}
+use Rattle.certificates.specs.Ordered.{IsPickInForce}
 use Rattle.certificates.specs.Updates.{Task, rollout}
 use Rattle.certificates.specs.Certified.{classes_for}
-use Rattle.certificates.specs.Valid.{IsValidOrdered}
 use Rattle.certificates.specs.declared.OrderedEvidence.{OrderedEvidence}
 use Rattle.certificates.specs.declared.OrderedPick.{OrderedPick}
 use Rattle.certificates.specs.declared.Evidence.TheVariants.{Ordered}
 use Rattle.check_reasons.specs.AtomMarks.{AreTouched}
-use Rattle.check_reasons.specs.Passed.{ChangesPass, RoundsPass}
-use Rattle.check_reasons.specs.Reasons.{class_duties}
+use Rattle.check_reasons.specs.Passed.{RoundsPass}
 use Rattle.check_reasons.specs.Touched.{touches}
-use Rattle.check_reasons.specs.declared.reason.Reason.{Reason}
-use Rattle.ordered_check.specs.Cases.{IsRound}
-use Rattle.ordered_check.specs.Firsts.{first_of}
-use Rattle.class_watch.specs.Walks.{HoldsWalks}
-use Rattle.class_watch.proofs.ListLaws.{some_at}
-use Rattle.class_watch.proofs.StandLaws.{untouched_walk}
-use Rattle.ordered_check.specs.Kept.{OrderedState, HasClassRoom, IsSettledBy, AreSettled}
+use Rattle.class_watch.specs.Classes.{AreClasses}
+use Rattle.class_watch.specs.Judges.{ArePassedOver}
 use Rattle.ordered_check.specs.Looked.{MayBePassed, AreLookedAt}
-use Rattle.ordered_check.proofs.KeptLaws.{AreJudged, judged_more}
-use Rattle.ordered_check.proofs.StandLaws.{certificate_stands}
+use Rattle.ordered_check.specs.Standing.{HasEarlierPick}
 
 -- ---- the atoms that are looked at
 
@@ -101,62 +91,18 @@ force_later picks k n pick force none = record {
       ];
 }
 
--- a class that may be passed over has its certificate, and its switches hold its walks
-certified : (t : Task) (e : OrderedEvidence) (k n : ℕ) (class : Class) (set : ℕ) (settled : Bool) → IsUserConfig t.update.net t.update.old → IsValidOrdered t.update.net (length t.rounds) e → k < length t.rounds
-    → RoundsPass t (Ordered e) k → ChangesPass t (Ordered e) k → IsClass (classes_for t) n class → MayBePassed t e k n → IsSettledBy t e k n class set settled
-    → OrderedCertificate (rollout t) e k n class.first class.entry (class_duties t class) × HoldsWalks (rollout t) k class set
-certified t e k n class set true user valid within before pass is over held = held
-certified t e zero n class set false user valid within before pass is over held = absurd (let h = over.later in omega arith)
-certified t e (suc k) n class set false user valid within before pass is over held =
+-- a class that may be passed over has a pick that was in force in the round before
+earlier_pick : (t : Task) (e : OrderedEvidence) (k n : ℕ) (class : Class) → RoundsPass t (Ordered e) k → IsClass (classes_for t) n class → MayBePassed t e k n → HasEarlierPick e k n
+earlier_pick t e zero n class before is over = absurd (let h = over.later in omega arith)
+earlier_pick t e (suc k) n class before is over =
     let cert = (before k (omega arith)).1 n class is in
-    certificate_stands t e (suc k) n class cert.pick set user valid within before pass is (force_later e.picks (suc k) n cert.pick cert.in_force over.no_pick) cert.in_force.begun held
-    (untouched_walk (round_after (suc k) t.rounds) class set (over.untouched class is))
+    record { pick = cert.pick; in_force = force_later e.picks (suc k) n cert.pick cert.in_force over.no_pick; begun = cert.in_force.begun }
 
-first_none : (found : Option Reason) → first_of found None ≡ found
-first_none None = refl
-first_none (Some reason) = refl
-
-module _ (t : Task) (e : OrderedEvidence) (k : ℕ) (changes : List Change) (mixes : List MixedState) (user : IsUserConfig t.update.net t.update.old) (valid : IsValidOrdered t.update.net (length t.rounds) e) (round : IsRound t e k changes mixes)
-    (old : OrderedState) (room : HasClassRoom (classes_for t) old) (settled : AreSettled t e k old) (looked : AreLookedAt t e k old.looked) where
-  stands_over : (n : ℕ) (class : Class) (set : ℕ) → get_or old.looked (n % length old.looked) false ≡ false → slice_get old.classes n ≡ Some class → slice_get old.came n ≡ Some set
-      → OrderedCertificate (rollout t) e k n class.first class.entry (class_duties t class) × HoldsWalks (rollout t) k class set
-  stands_over n class set off is came =
-      let within : n < class_count (classes_for t) = (let lt = slice_get_within old.classes n class is in let count = room.classes_are.count in omega arith) in
-      let (flag, at) = some_at old.settled n (let count = room.settled in omega arith) in
-      let over = looked n within (subst (λ (c : ℕ). get_or old.looked (n % c) false ≡ false) (room.looked (omega arith)) off) in
-      certified t e k n class set flag user valid round.within round.before round.pass (room.classes_are.each n class is) over (settled n class set flag is came at)
-
-  over_one : (n : ℕ) (found : Option Reason) (mid : OrderedState) → n < class_count (classes_for t) → get_or old.looked (n % length old.looked) false ≡ false → AreJudged t e k n found old mid → AreJudged t e k (n + 1) found old mid
-  over_one n found mid within off judged =
-      let (set, came) = some_at old.came n (let count = room.came in omega arith) in
-      let class_was = λ (class : Class) (at : slice_get mid.classes n ≡ Some class). ap (λ (cs : List Class). slice_get cs n) (sym judged.classes) ∙ at in
-      subst (λ (f : Option Reason). AreJudged t e k (n + 1) f old mid) (first_none found)
-      (judged_more t e k n found None old mid mid valid.ascending room.classes_are within judged (record {
-        none = λ class at. (stands_over n class set off (class_was class at) came).0;
-        some = tt;
-        guarded = judged.guarded;
-        picks = refl;
-        classes = refl;
-        touched = refl;
-        looked = refl;
-        settled = refl;
-        count = refl;
-        others = λ m ne. refl;
-        walks = λ class them at there. (stands_over n class them off (class_was class at) (sym (judged.later n (omega arith)) ∙ there)).1;
-      }))
-
-  over_more : (n more : ℕ) (found : Option Reason) (mid : OrderedState) → n + more ≤ class_count (classes_for t) → ((m : ℕ) → n ≤ m → m < n + more → get_or old.looked (m % length old.looked) false ≡ false)
-      → AreJudged t e k n found old mid → AreJudged t e k (n + more) found old mid
-  over_more n zero found mid fits passed judged = let same : n ≡ n + 0 = omega arith in subst (λ (m : ℕ). AreJudged t e k m found old mid) same judged
-  over_more n (suc more) found mid fits passed judged =
-      let same : (n + more) + 1 ≡ n + suc more = omega arith in
-      let before = over_more n more found mid (omega arith) (λ m ge lt. passed m ge (omega arith)) judged in
-      subst (λ (m : ℕ). AreJudged t e k m found old mid) same (over_one (n + more) found mid (omega arith) (passed (n + more) (omega arith) (omega arith)) before)
-
-  -- what was judged up to one class is judged up to a later one, where all between are passed over
-  pub judged_over : (n to : ℕ) (found : Option Reason) (mid : OrderedState) → n ≤ to → to ≤ class_count (classes_for t) → ((m : ℕ) → n ≤ m → m < to → get_or mid.looked (m % length mid.looked) false ≡ false)
-      → AreJudged t e k n found old mid → AreJudged t e k to found old mid
-  judged_over n to found mid le fits passed judged =
-      let same : n + (to - n) ≡ to = omega arith in
-      subst (λ (m : ℕ). AreJudged t e k m found old mid) same
-      (over_more n (to - n) found mid (omega arith) (λ m ge lt. subst (λ (bs : List Bool). get_or bs (m % length bs) false ≡ false) judged.looked (passed m ge (omega arith))) judged)
+-- the classes whose atom isn't looked at may be passed over
+pub passed_over : (t : Task) (e : OrderedEvidence) (k : ℕ) (looked : List Bool) (classes : List Class) → AreClasses (classes_for t) classes → (0 < class_count (classes_for t) → length looked ≡ atom_count (classes_for t))
+    → RoundsPass t (Ordered e) k → AreLookedAt t e k looked → ArePassedOver (record { classes = classes_for t; update = rollout t; number = k }) (HasEarlierPick e k) classes looked
+passed_over t e k looked classes are count before all n class there off =
+    let is = are.each n class there in
+    let within : n < class_count (classes_for t) = (let less = slice_get_within classes n class there in let long = are.count in omega arith) in
+    let over = all n within (subst (λ (m : ℕ). get_or looked (n % m) false ≡ false) (count (omega arith)) off) in
+    (earlier_pick t e k n class before is over, over.untouched class is)

@@ -1,7 +1,6 @@
 -- Where no change of a round may be met on the walks that a class had in the round before, and its pick was in force then, its
 -- certificate stands.
 use Rattle.std.proofs.Common.{◌≡◌, ℕ, zero, suc, ◌<◌, ◌≤◌, false, List, length, sym, subst, inl, inr, arith}
-use Rattle.std.specs.Prelude.{Option, Some, None, IsSomeAnd}
 use Rattle.std.proofs.lemmas.Bool.{cases_lt}
 use Rattle.net_base.proofs.MemberLaws.{each_at}
 use Rattle.path_walk.specs.UserConfigs.{IsUserConfig}
@@ -25,7 +24,6 @@ use Rattle.mixed_walks.specs.Walks.{KeepVlansUpTo, TablesKeepVlans, IsRoundOf}
 use Rattle.mixed_walks.proofs.PlaceLaws.{tables_keep}
 use Rattle.class_watch.specs.Walks.{HoldsWalks, meets_any, HoldsWalksBefore}
 use Rattle.class_watch.proofs.StandLaws.{next_held, next_safe}
-use Rattle.ordered_check.specs.Picks.{IsKeptPick}
 use Rattle.certificates.proofs.PickLaws.{one_in_force}
 
 -- ---- the certificate
@@ -73,11 +71,3 @@ certificate_stands t e (suc k) n class pick set user valid within before pass is
       },
       next_held (rollout t) k class set within changes.good keeps_old keeps held off,
     )
-
--- the same for what is kept of the pick in force
-pub class_stands : (t : Task) (e : OrderedEvidence) (k n : ℕ) (class : Class) (in_force : Option OrderedPick) (set : ℕ) → IsUserConfig t.update.net t.update.old
-    → IsValidOrdered t.update.net (length t.rounds) e → k < length t.rounds → RoundsPass t (Ordered e) k → ChangesPass t (Ordered e) k → IsClass (classes_for t) n class
-    → IsKeptPick e.picks (suc k) n in_force → IsSomeAnd in_force (λ pick. pick.round ≤ k) → HoldsWalksBefore (rollout t) k class set → meets_any (round_after k t.rounds) class set ≡ false
-    → OrderedCertificate (rollout t) e k n class.first class.entry (class_duties t class) × HoldsWalks (rollout t) k class set
-class_stands t e k n class None set user valid within before pass is kept begun held off = absurd begun
-class_stands t e k n class (Some pick) set user valid within before pass is kept begun held off = certificate_stands t e k n class pick set user valid within before pass is kept begun held off

@@ -3,6 +3,7 @@ pub mod Picks
 pub mod Judged
 pub mod Guarded
 pub mod Looked
-pub mod Kept
+pub mod Standing
 pub mod Firsts
 pub mod Together
+pub mod Kept

@@ -3,12 +3,12 @@
 
 mod cases;
 mod guarded;
+mod judge;
 mod judging;
 mod least;
-mod looking;
 mod ordered;
 mod picks;
-mod together;
+mod standing;
 mod ways;
 
 pub use cases::OrderedCase;

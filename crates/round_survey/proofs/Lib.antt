@@ -1,5 +1,5 @@
-pub mod MemberLaws
+pub mod TableLaws
 pub mod GateLaws
 pub mod MissLaws
 pub mod SeenLaws
-pub mod MarkLaws
+pub mod KeepLaws

@@ -11,8 +11,7 @@ use Rattle.update_model.specs.declared.Change.{Change}
 use Rattle.check_reasons.specs.AtomMarks.{is_marked, AreTouched}
 use Rattle.check_reasons.specs.Touched.{touches}
 use Rattle.class_watch.specs.Classes.{AreClasses}
-use Rattle.class_watch.proofs.StandLaws.{untouched_walk}
-use Rattle.round_survey.specs.Rounds.{IsMissed, PassesOver}
+use Rattle.round_survey.specs.Rounds.{PassesOver}
 use Rattle.breaking_walks.specs.declared.round.PreparedRound.{PreparedRound}
 
 module _ (round : PreparedRound) (map : ClassList) (classes : List Class) (are : AreClasses map classes) (looked : List Bool) (count : 0 < class_count map → length looked ≡ atom_count map) where
@@ -34,13 +33,6 @@ module _ (round : PreparedRound) (map : ClassList) (classes : List Class) (are :
       all_on zero i less = absurd (omega arith)
       all_on (suc m) zero less = refl
       all_on (suc m) (suc i) less = all_on m i (omega arith)
-
--- a class that is passed over is missed, wherever it came
-pub missed_over : (round : PreparedRound) (classes : List Class) (looked : List Bool) → PassesOver round classes looked → (n : ℕ) (class : Class) → slice_get classes n ≡ Some class
-    → is_marked looked (n % length looked) ≡ false → (set : ℕ) → IsMissed round class set
-missed_over round classes looked over n class at off set =
-    let (later, free) = over n class at off in
-    record { later = later; missed = untouched_walk (round_after round.number round.rounds.now) class set free }
 
 -- a list with one member
 pub one_item : {A : Type 0} (xs : List A) (x : A) → length xs ≡ 1 → x ≡ get_or xs 0 x → xs ≡ x ∷ []

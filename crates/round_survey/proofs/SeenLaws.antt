@@ -6,7 +6,6 @@ use Rattle.net_base.specs.Members.{IsIn}
 use Rattle.net_base.specs.Walks.{IsWalk, IsReached, end_of}
 use Rattle.net_base.specs.declared.ids.Place.{Place}
 use Rattle.net_base.specs.declared.ids.SwitchId.{SwitchId}
-use Rattle.net_base.proofs.MemberLaws.{in_map}
 use Rattle.net_base.proofs.WalkLaws.{reached_start, reached_more}
 use Rattle.flow_rules.specs.Tables.{rules_at}
 use Rattle.path_walk.specs.declared.Outcome.{Outcome}
@@ -18,15 +17,14 @@ use Rattle.update_model.specs.Mixtures.{Rollout, tables_before, IsPossible, MayG
 use Rattle.acyclic_numbering.specs.Heights.{IsEdge, Falls}
 use Rattle.certificates.specs.Steps.{MayLeave, switches_along}
 use Rattle.certificates.proofs.Falling.{distinct_walk}
-use Rattle.mixed_walks.specs.Walks.{WalkState, switches_of, Covers, IsWalked, KeepVlansUpTo, TablesKeepVlans}
-use Rattle.net_base.specs.Switches.{has}
+use Rattle.mixed_walks.specs.Walks.{WalkState, Covers, IsWalked, KeepVlansUpTo, TablesKeepVlans}
 use Rattle.class_watch.specs.Walks.{HoldsWalks, meets_any, HoldsWalksBefore}
 use Rattle.class_watch.proofs.StandLaws.{possible_next, next_held, next_outcomes}
 use Rattle.breaking_walks.specs.Breaking.{Breaks, HasBreakingWalk, MayLeaveUnmet}
 use Rattle.breaking_walks.specs.Surveys.{NeverDrops, NeverRepeats}
 use Rattle.breaking_walks.proofs.SurveyLaws.{never_again}
 use Rattle.round_survey.specs.Gates.{AreGates, IsMetFrom}
-use Rattle.round_survey.specs.Surveys.{KeepsDuties, IsSeen, IsKnown}
+use Rattle.round_survey.specs.Surveys.{KeepsDuties, IsSeen}
 use Rattle.round_survey.specs.declared.seen.SurveyedWalks.{SurveyedWalks}
 use Rattle.round_survey.proofs.GateLaws.{gate_for, met_along_gates}
 
@@ -40,9 +38,6 @@ covers_walked u k dst entry noted walked = record {
 }
 
 module _ (u : Rollout) (k : ℕ) (class : Class) (noted : WalkState) (covers : Covers u k class.first class.entry noted) where
-  covered_came : (came : ℕ) → ((s : SwitchId) → IsTrue (has came s) ↔ IsIn s (switches_of noted.places)) → HoldsWalks u k class came
-  covered_came came each place on = (each place.switch).1 (in_map (λ (p : Place). p.switch) place noted.places (covers.places place on))
-
   covered_repeats : (numbers : List ℕ) → Falls (IsEdge noted.steps) numbers → NeverRepeats u k class.first class.entry
   covered_repeats numbers falls = distinct_walk u k class.first class.entry numbers (λ s t step. falls s t (covers.steps s t step))
 
@@ -52,11 +47,9 @@ module _ (u : Rollout) (k : ℕ) (class : Class) (noted : WalkState) (covers : C
       (covers.dropping (end_of class.entry rest).switch (record { place = end_of class.entry rest; on_walk = (rest, walk, refl); drops = drops; at_is = refl }))
 
   -- what is seen where the noted walks hold those of the class
-  pub covered_seen : (seen : SurveyedWalks) → ((s : SwitchId) → IsTrue (has seen.came s) ↔ IsIn s (switches_of noted.places))
-      → (seen.pass_once ≡ true → (numbers : List ℕ) × Falls (IsEdge noted.steps) numbers) → (seen.may_drop ≡ false → noted.dropping ≡ []) → (seen.may_leave ≡ false → noted.leaving ≡ [])
+  pub covered_seen : (seen : SurveyedWalks) → (seen.pass_once ≡ true → (numbers : List ℕ) × Falls (IsEdge noted.steps) numbers) → (seen.may_drop ≡ false → noted.dropping ≡ []) → (seen.may_leave ≡ false → noted.leaving ≡ [])
       → AreGates seen.gates.numbering seen.gates.set noted → IsSeen u k class seen
-  covered_seen seen each have none stay gates = record {
-    walks = covered_came seen.came each;
+  covered_seen seen have none stay gates = record {
     repeats = λ on. let (numbers, lower) = have on in covered_repeats numbers lower;
     drops = λ off. covered_drops (none off);
     leaves = λ off s leaves. subst (λ (xs : List SwitchId). IsIn s xs) (stay off) (covers.leaving s leaves);
@@ -65,8 +58,8 @@ module _ (u : Rollout) (k : ℕ) (class : Class) (noted : WalkState) (covers : C
 
 -- what is seen where it is shown besides that no switch stands twice
 pub seen_once : (u : Rollout) (k : ℕ) (class : Class) (seen : SurveyedWalks) → IsSeen u k class seen → (once : Bool) → (once ≡ true → NeverRepeats u k class.first class.entry)
-    → IsSeen u k class (record { came = seen.came; pass_once = once; may_drop = seen.may_drop; may_leave = seen.may_leave; gates = seen.gates })
-seen_once u k class seen is once never = record { walks = is.walks; repeats = never; drops = is.drops; leaves = is.leaves; gates = is.gates }
+    → IsSeen u k class (record { pass_once = once; may_drop = seen.may_drop; may_leave = seen.may_leave; gates = seen.gates })
+seen_once u k class seen is once never = record { repeats = never; drops = is.drops; leaves = is.leaves; gates = is.gates }
 
 -- a class keeps its duties where no switch stands twice on its walks, nothing is discarded that must arrive, and none leaves or
 -- each chain is one of gates
@@ -138,15 +131,15 @@ module _ (u : Rollout) (good : AreGoodRounds u) (clear : AreClearRounds u) (keep
     breaks = breaks_before duties h.rest h.walk h.breaks;
   }
 
-  known_next : (demands : List DemandView) → KeepsDuties u demands k class → IsKnown u demands (suc k) class came
-  known_next demands kept = record {
-    walks = next_held u k class came next (good k less) keeps_old keeps held off;
-    keeps = λ has. kept (has_before (duties_of demands class.entry class.first) has);
-  }
+  known_next : (demands : List DemandView) → KeepsDuties u demands k class → HoldsWalks u (suc k) class came × KeepsDuties u demands (suc k) class
+  known_next demands kept = (
+    next_held u k class came next (good k less) keeps_old keeps held off,
+    (λ has. kept (has_before (duties_of demands class.entry class.first) has)),
+  )
 
 -- so it keeps its duties, if it did in the rounds before
 pub missed_known : (u : Rollout) → AreGoodRounds u → AreClearRounds u → TablesKeepVlans u.old → (k : ℕ) → KeepVlansUpTo u k → k < length u.rounds → (demands : List DemandView) (class : Class) (came : ℕ)
-    → 0 < k → meets_any (round_after k u.rounds) class came ≡ false → HoldsWalksBefore u k class came → ((j : ℕ) → j < k → KeepsDuties u demands j class) → IsKnown u demands k class came
+    → 0 < k → meets_any (round_after k u.rounds) class came ≡ false → HoldsWalksBefore u k class came → ((j : ℕ) → j < k → KeepsDuties u demands j class) → HoldsWalks u k class came × KeepsDuties u demands k class
 missed_known u good clear keeps_old zero keeps less demands class came later off held before = absurd (omega arith)
 missed_known u good clear keeps_old (suc k) keeps less demands class came later off held before =
     known_next u good clear keeps_old k (λ j within. keeps j (omega arith)) less class came held off demands (before k (omega arith))

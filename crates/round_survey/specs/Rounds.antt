@@ -1,4 +1,4 @@
--- A round of an update in which packets keep their VLANs, and the classes that it meets.
+-- A round of an update in which packets keep their VLANs, and the classes that are passed over.
 use Rattle.std.specs.Prelude.{◌≡◌, ℕ, ◌<◌, ◌%◌, Bool, false, List, length, slice_get, Some}
 use Rattle.dest_classes.specs.declared.Class.{Class}
 use Rattle.update_model.specs.Changes.{round_after}
@@ -6,7 +6,6 @@ use Rattle.update_model.specs.Mixtures.{AreGoodRounds, AreClearRounds}
 use Rattle.check_reasons.specs.AtomMarks.{is_marked}
 use Rattle.check_reasons.specs.Touched.{touches}
 use Rattle.mixed_walks.specs.Walks.{IsRoundOf}
-use Rattle.class_watch.specs.Walks.{meets_any}
 use Rattle.breaking_walks.specs.declared.round.PreparedRound.{PreparedRound}
 pub use Rattle.breaking_walks.specs.Rounds.{round_rollout}
 
@@ -16,11 +15,6 @@ pub record IsPreparedRound (round : PreparedRound) : Type 0 where
   pub within : round.number < length round.rounds.now
   pub good : AreGoodRounds (round_rollout round)
   pub clear : AreClearRounds (round_rollout round)
-
--- the round isn't the first, and no change of it may be met by packets of the class at a switch of the set
-pub record IsMissed (round : PreparedRound) (class : Class) (set : ℕ) : Type 0 where
-  pub later : 0 < round.number
-  pub missed : meets_any (round_after round.number round.rounds.now) class set ≡ false
 
 -- of the classes whose atom isn't looked at no change of the round covers the address, and the round isn't the first
 abbrev pub PassesOver : PreparedRound → List Class → List Bool → Type 0

@@ -2,12 +2,13 @@
 #![tactic(auto)]
 
 mod gates;
+mod judge;
 mod keeping;
+mod looking;
 mod members;
-mod missed;
 mod seen;
 mod stepping;
 mod survey;
 
 pub use keeping::keep_vlans;
-pub use survey::RoundSurvey;
+pub use survey::survey_round;

@@ -13,19 +13,17 @@ ghost use Rattle.round_survey.specs.Surveys.{IsSeen, KeepsDuties};
 
 use crate::gates::{Gates, find_gates, is_met, no_gates};
 use breaking_walks::have_falling;
-use class_watch::switches_on;
 use demands::Duties;
 use dest_classes::NumberedClass;
 use mixed_walks::WalkRoom;
-use net_base::{Memory, SwitchSet};
+use net_base::Memory;
 use std::alloc::Global;
 use topology::Net;
 
-/// The switches that walks come to; whether it is shown that no switch stands twice on one; whether a packet may be discarded
-/// on them, or leave; and gates that it passes then.
+/// Whether it is shown that no switch stands twice on one of the walks; whether a packet may be discarded on them, or leave; and
+/// gates that it passes then.
 #[derive(Drop)]
 pub(crate) struct SurveyedWalks {
-    pub(crate) came: SwitchSet,
     pub(crate) pass_once: bool,
     pub(crate) may_drop: bool,
     pub(crate) may_leave: bool,
@@ -58,7 +56,6 @@ pub(crate) fn see(
     let falls = have_falling(alloc, net.switches(), walk.steps())?;
     let gates = gates_on(alloc, net, walk, falls && wants_gates)?;
     Ok(SurveyedWalks {
-        came: switches_on(walk),
         pass_once: falls,
         may_drop: !walk.dropping().is_empty(),
         may_leave: !walk.leaving().is_empty(),

@@ -5,7 +5,7 @@ use Rattle.std.proofs.lemmas.Result.{IfOk-weaker}
 use Rattle.two_way_driver.specs.Calls.{DriverView, IsServing, IsCallRefusal, KeepsUnlessMemory}
 use Rattle.two_way_driver.specs.declared.faults.CallFault.{CallFault}
 use Rattle.two_way_driver.specs.declared.faults.CallFault.TheVariants as fault
-use Rattle.serve_lines.specs.declared.blocks.Outcome.{Outcome}
+use Rattle.serve_lines.specs.declared.blocks.LineOutcome.{LineOutcome}
 use Rattle.serve_command.specs.Served.{refusal_of, call_outcome}
 
 stays : (old new : DriverView) (f : CallFault) → f ≢ fault.Memory → KeepsUnlessMemory old new f → new ≡ old
@@ -31,7 +31,7 @@ on_ok_too (Ok x) f h = f h
 on_ok_too (Err e) f h = tt
 
 -- A refused call leaves the driver as it was, and its outcome says why. `behind` is the driver behind a call that isn't refused.
-module _ {E : Type 0} (driver left : DriverView) (f : CallFault) (r : Result Outcome E) (of : Option CallFault) (keeps : KeepsUnlessMemory driver left f) (refused : IsCallRefusal of f) (said : IfOk r (λ o. (o ≡ refusal_of f) × (f ≢ fault.Memory))) where
+module _ {E : Type 0} (driver left : DriverView) (f : CallFault) (r : Result LineOutcome E) (of : Option CallFault) (keeps : KeepsUnlessMemory driver left f) (refused : IsCallRefusal of f) (said : IfOk r (λ o. (o ≡ refusal_of f) × (f ≢ fault.Memory))) where
   pub refused_call : (behind : DriverView) → OnOk r (left ≡ (if is_none of then behind else driver))
   refused_call behind =
       on_ok r (λ o h. stays driver left f h.1 keeps ∙ sym (ap (λ (x : Option CallFault). if is_none x then behind else driver) (refuses of f h.1 refused))) said

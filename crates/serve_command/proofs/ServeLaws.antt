@@ -17,8 +17,8 @@ use Rattle.serve_lines.proofs.KeptLaws.{line_kept, kept_next}
 use Rattle.serve_lines.proofs.LineLaws.{end_ends, end_begins, byte_ends, byte_opens}
 use Rattle.serve_command.specs.Served.{after_line, line_block, after_lines, blocks, after_read, outcome_read}
 use Rattle.serve_command.specs.Stops.{StopsLine, StopsAt, HasServed, IsFrontOf, AreAll, EndsAfter, EndsInput, EndsServing, status_of, input_name, input_of}
-use Rattle.serve_command.specs.declared.stop.Stop.{Stop}
-use Rattle.serve_command.specs.declared.stop.Stop.TheVariants as stop
+use Rattle.serve_command.specs.declared.fault.ServeFault.{ServeFault}
+use Rattle.serve_command.specs.declared.fault.ServeFault.TheVariants as fault
 
 -- ---- lines in a row
 
@@ -80,17 +80,17 @@ module _ (v : DriverView) (old now new : Option (List ℕ)) (bytes : List ℕ) (
       ∙ sym (after_lines-append v (ended_lines bytes) (open_line bytes ∷ []))
 
   -- or it stops
-  pub line_stops : (s : Stop) → StopsLine now new (line_block d line) s → StopsAt (blocks v) old new (ended_lines bytes ++ open_line bytes ∷ []) s
-  line_stops stop.WriteFault p = subst (λ (t : List ℕ). AppendsFront old new t) all_blocks (front_behind old now new (blocks v (ended_lines bytes)) (line_block d line) h.written p)
-  line_stops stop.Memory p = (
+  pub line_stops : (s : ServeFault) → StopsLine now new (line_block d line) s → StopsAt (blocks v) old new (ended_lines bytes ++ open_line bytes ∷ []) s
+  line_stops fault.WriteFault p = subst (λ (t : List ℕ). AppendsFront old new t) all_blocks (front_behind old now new (blocks v (ended_lines bytes)) (line_block d line) h.written p)
+  line_stops fault.Memory p = (
     length (ended_lines bytes),
     subst (λ (t : List (List ℕ)). Appends old new (blocks v t)) (sym (take-append_seam (ended_lines bytes) (open_line bytes ∷ []))) (Appends-kept old now new (blocks v (ended_lines bytes)) h.written p),
   )
 
 -- what stops among lines stops among these and more
-pub stops_more : (v : DriverView) (old new : Option (List ℕ)) (lines more : List (List ℕ)) (s : Stop) → StopsAt (blocks v) old new lines s → StopsAt (blocks v) old new (lines ++ more) s
-stops_more v old new lines more stop.WriteFault p = subst (λ (t : List ℕ). AppendsFront old new t) (sym (blocks-append v lines more)) (front_more old new (blocks v lines) (blocks (after_lines v lines) more) p)
-stops_more v old new lines more stop.Memory (n, p) =
+pub stops_more : (v : DriverView) (old new : Option (List ℕ)) (lines more : List (List ℕ)) (s : ServeFault) → StopsAt (blocks v) old new lines s → StopsAt (blocks v) old new (lines ++ more) s
+stops_more v old new lines more fault.WriteFault p = subst (λ (t : List ℕ). AppendsFront old new t) (sym (blocks-append v lines more)) (front_more old new (blocks v lines) (blocks (after_lines v lines) more) p)
+stops_more v old new lines more fault.Memory (n, p) =
     let within : min n (length lines) ≤ length lines = omega arith in
     (min n (length lines), subst (λ (t : List (List ℕ)). Appends old new (blocks v t)) (sym (take-append-le (min n (length lines)) lines more within ∙ take_min n lines)) p)
 
@@ -105,7 +105,7 @@ served_ended v old now new bytes d e line empty h written behind cleared = recor
   written = subst (λ (t : List (List ℕ)). Appends old new (blocks v t)) (sym (end_ends bytes)) (line_written v old now new bytes d line h written);
 }
 
-pub stops_ended : (v : DriverView) (old now new : Option (List ℕ)) (bytes : List ℕ) (d : DriverView) (line : List ℕ) (s : Stop)
+pub stops_ended : (v : DriverView) (old now new : Option (List ℕ)) (bytes : List ℕ) (d : DriverView) (line : List ℕ) (s : ServeFault)
     → HasServed v old now bytes d line → StopsLine now new (line_block d line) s → StopsAt (blocks v) old new (ended_lines (bytes ++ 10 ∷ [])) s
 stops_ended v old now new bytes d line s h stops = subst (λ (t : List (List ℕ)). StopsAt (blocks v) old new t s) (sym (end_ends bytes)) (line_stops v old now new bytes d line h s stops)
 
@@ -119,7 +119,7 @@ served_kept v old now bytes b d e line more differs h same longer = record {
 }
 
 pub stops_kept : (v : DriverView) (old now : Option (List ℕ)) (bytes : List ℕ) (b : ℕ) (d : DriverView) (line : List ℕ)
-    → b ≢ 10 → HasServed v old now bytes d line → StopsAt (blocks v) old now (ended_lines (bytes ++ b ∷ [])) stop.Memory
+    → b ≢ 10 → HasServed v old now bytes d line → StopsAt (blocks v) old now (ended_lines (bytes ++ b ∷ [])) fault.Memory
 stops_kept v old now bytes b d line differs h =
     (length (ended_lines bytes), subst (λ (t : List (List ℕ)). Appends old now (blocks v t)) (sym (ap (take (length (ended_lines bytes))) (byte_ends bytes b differs) ∙ take_all (length (ended_lines bytes)) (ended_lines bytes) (omega arith))) h.written)
 
@@ -147,7 +147,7 @@ end_more bytes [] = record { more = []; are = ap ended_lines (append-nil bytes) 
 end_more bytes (b ∷ piece) = end_more_by bytes piece b (is_or_differs b 10) (end_more (bytes ++ b ∷ []) piece)
 
 -- what stops at the lines that these bytes end stops at those that more bytes end
-pub stops_on : (v : DriverView) (old new : Option (List ℕ)) (bytes more : List ℕ) (s : Stop) → StopsAt (blocks v) old new (ended_lines bytes) s → StopsAt (blocks v) old new (ended_lines (bytes ++ more)) s
+pub stops_on : (v : DriverView) (old new : Option (List ℕ)) (bytes more : List ℕ) (s : ServeFault) → StopsAt (blocks v) old new (ended_lines bytes) s → StopsAt (blocks v) old new (ended_lines (bytes ++ more)) s
 stops_on v old new bytes more s p =
     let h = end_more bytes more in
     subst (λ (t : List (List ℕ)). StopsAt (blocks v) old new t s) (sym h.are) (stops_more v old new (ended_lines bytes) h.more s p)
@@ -180,7 +180,7 @@ pub served_last : (v : DriverView) (old now new : Option (List ℕ)) (bytes : Li
 served_last v old now new bytes d line h some written =
     subst (λ (t : List (List ℕ)). Appends old new (blocks v t)) (sym (some_last bytes line some h.line_is)) (line_written v old now new bytes d line h written)
 
-pub stops_last : (v : DriverView) (old now new : Option (List ℕ)) (bytes : List ℕ) (d : DriverView) (line : List ℕ) (s : Stop)
+pub stops_last : (v : DriverView) (old now new : Option (List ℕ)) (bytes : List ℕ) (d : DriverView) (line : List ℕ) (s : ServeFault)
     → HasServed v old now bytes d line → 0 < length line → StopsLine now new (line_block d line) s → StopsAt (blocks v) old new (lines_in bytes) s
 stops_last v old now new bytes d line s h some stops =
     subst (λ (t : List (List ℕ)). StopsAt (blocks v) old new t s) (sym (some_last bytes line some h.line_is)) (line_stops v old now new bytes d line h s stops)
@@ -211,9 +211,9 @@ ends_wanting v input left old new counted d line t = record {
 }
 
 -- a line of a piece stopped it
-pub ends_stopped : (v : DriverView) (input old new : Option (List ℕ)) (taken : List ℕ) (s : Stop) → IsFrontOf input taken → StopsAt (blocks v) old new (ended_lines taken) s → EndsAfter (blocks v) input old new taken (status_of s)
-ends_stopped v input old new taken stop.WriteFault front p = (front, stops_more v old new (ended_lines taken) (last_line (open_line taken)) stop.WriteFault p)
-ends_stopped v input old new taken stop.Memory front p = (front, stops_more v old new (ended_lines taken) (last_line (open_line taken)) stop.Memory p)
+pub ends_stopped : (v : DriverView) (input old new : Option (List ℕ)) (taken : List ℕ) (s : ServeFault) → IsFrontOf input taken → StopsAt (blocks v) old new (ended_lines taken) s → EndsAfter (blocks v) input old new taken (status_of s)
+ends_stopped v input old new taken fault.WriteFault front p = (front, stops_more v old new (ended_lines taken) (last_line (open_line taken)) fault.WriteFault p)
+ends_stopped v input old new taken fault.Memory front p = (front, stops_more v old new (ended_lines taken) (last_line (open_line taken)) fault.Memory p)
 
 -- the input is what the source holds under the name, where it tells
 ends_as : (v : DriverView) (input left old new : Option (List ℕ)) (taken : List ℕ) (result : Status) → ((taken : List ℕ) → IsFrontOf left taken → IsFrontOf input taken) → ((taken : List ℕ) → AreAll left taken → AreAll input taken)
@@ -234,22 +234,22 @@ module _ (first : List ℕ) (v : DriverView) (old mid new : Option (List ℕ)) (
   abbrev greeted : List (List ℕ) → List ℕ
   greeted lines = first ++ blocks v lines
 
-  greeted_stops : (lines : List (List ℕ)) (s : Stop) → StopsAt (blocks v) mid new lines s → StopsAt greeted old new lines s
-  greeted_stops lines stop.WriteFault p = front_behind old mid new first (blocks v lines) written p
-  greeted_stops lines stop.Memory (n, p) = (n, Appends-trans old mid new first (blocks v (take n lines)) written p)
+  greeted_stops : (lines : List (List ℕ)) (s : ServeFault) → StopsAt (blocks v) mid new lines s → StopsAt greeted old new lines s
+  greeted_stops lines fault.WriteFault p = front_behind old mid new first (blocks v lines) written p
+  greeted_stops lines fault.Memory (n, p) = (n, Appends-trans old mid new first (blocks v (take n lines)) written p)
 
   greeted_after : (input : Option (List ℕ)) (taken : List ℕ) (result : Status) → EndsAfter (blocks v) input mid new taken result → EndsAfter greeted input old new taken result
   greeted_after input taken status.Done p = (p.0, Appends-trans old mid new first (blocks v (lines_in taken)) written p.1)
   greeted_after input taken status.ReadFault p = (p.0, Appends-trans old mid new first (blocks v (ended_lines taken)) written p.1)
-  greeted_after input taken status.WriteFault p = (p.0, greeted_stops (lines_in taken) stop.WriteFault p.1)
-  greeted_after input taken status.Memory p = (p.0, greeted_stops (lines_in taken) stop.Memory p.1)
+  greeted_after input taken status.WriteFault p = (p.0, greeted_stops (lines_in taken) fault.WriteFault p.1)
+  greeted_after input taken status.Memory p = (p.0, greeted_stops (lines_in taken) fault.Memory p.1)
   greeted_after input taken _ p = absurd p
 
   pub ends_greeted : (input : Option (List ℕ)) (counted : ℕ) (result : Status) → EndsInput (blocks v) input mid new counted result → EndsServing (λ lines. first ++ blocks v lines) input old new counted result
   ends_greeted input counted result e = inr (record { taken = e.taken; count = e.count; ends = greeted_after input e.taken result e.ends })
 
 -- a line of a piece that was taken stopped it
-pub ends_piece : (v : DriverView) (input left behind old now new : Option (List ℕ)) (counted next : ℕ) (d : DriverView) (line piece : List ℕ) (s : Stop) (t : Taking v input left old now counted d line)
+pub ends_piece : (v : DriverView) (input left behind old now new : Option (List ℕ)) (counted next : ℕ) (d : DriverView) (line piece : List ℕ) (s : ServeFault) (t : Taking v input left old now counted d line)
     → Consumes left behind piece → next ≡ raised_count counted (length piece) → StopsAt (blocks v) old new (ended_lines (t.taken ++ piece)) s → EndsInput (blocks v) input old new next (status_of s)
 ends_piece v input left behind old now new counted next d line piece s t consumes count stops = record {
   taken = t.taken ++ piece;

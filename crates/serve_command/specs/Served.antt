@@ -12,8 +12,8 @@ use Rattle.serve_lines.specs.Blocks.{block_text}
 use Rattle.serve_lines.specs.declared.fault.LineFault.{LineFault}
 use Rattle.serve_lines.specs.declared.line.ServeLine.{ServeLine}
 use Rattle.serve_lines.specs.declared.line.ServeLine.TheVariants.{Comment, Start, Back, Reopen, Feed}
-use Rattle.serve_lines.specs.declared.blocks.Outcome.{Outcome}
-use Rattle.serve_lines.specs.declared.blocks.Outcome.TheVariants as outcome
+use Rattle.serve_lines.specs.declared.blocks.LineOutcome.{LineOutcome}
+use Rattle.serve_lines.specs.declared.blocks.LineOutcome.TheVariants as outcome
 
 -- a driver after the call that a line asks for
 abbrev pub after_asked : DriverView → ServeLine → DriverView
@@ -24,7 +24,7 @@ after_asked v (Reopen s) = after_call v (call.Reopen s)
 after_asked v (Feed s bytes) = after_call v (call.Feed s bytes)
 
 -- how a call ended that has this fault; want of memory is none
-abbrev pub refusal_of : CallFault → Outcome
+abbrev pub refusal_of : CallFault → LineOutcome
 refusal_of fault.Running = outcome.Running
 refusal_of fault.Finished = outcome.Finished
 refusal_of fault.NotBegun = outcome.NotBegun
@@ -32,12 +32,12 @@ refusal_of (fault.NotOpen s) = outcome.NotOpen s
 refusal_of fault.Memory = outcome.BadLine
 
 -- how a call ended, which has a fault or leads to this driver
-abbrev pub call_outcome : Option CallFault → DriverView → Outcome
+abbrev pub call_outcome : Option CallFault → DriverView → LineOutcome
 call_outcome None v = outcome.Went v.state.stage
 call_outcome (Some fault) v = refusal_of fault
 
 -- how the line that asks for this ended
-abbrev pub outcome_asked : DriverView → ServeLine → Outcome
+abbrev pub outcome_asked : DriverView → ServeLine → LineOutcome
 outcome_asked v Comment = call_outcome None v
 outcome_asked v Start = call_outcome (start_fault v) (after_asked v Start)
 outcome_asked v Back = call_outcome (back_fault v) (after_asked v Back)
@@ -49,7 +49,7 @@ abbrev pub after_read : DriverView → Result ServeLine LineFault → DriverView
 after_read v (Ok line) = after_asked v line
 after_read v (Err bad) = v
 
-abbrev pub outcome_read : DriverView → Result ServeLine LineFault → Outcome
+abbrev pub outcome_read : DriverView → Result ServeLine LineFault → LineOutcome
 outcome_read v (Ok line) = outcome_asked v line
 outcome_read v (Err bad) = outcome.BadLine
 

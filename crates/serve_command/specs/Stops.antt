@@ -8,9 +8,9 @@ use Rattle.command_base.specs.declared.status.Status.TheVariants as status
 use Rattle.two_way_driver.specs.Calls.{DriverView, IsServing}
 use Rattle.serve_lines.specs.Lines.{ended_lines, open_line, lines_in, kept_bytes}
 use Rattle.serve_command.specs.Served.{after_lines, blocks}
-use Rattle.serve_command.specs.declared.stop.Stop.{Stop}
-use Rattle.serve_command.specs.declared.stop.Stop.TheVariants as stop
-use Rattle.serve_command.specs.declared.place.Place.{Place}
+use Rattle.serve_command.specs.declared.fault.ServeFault.{ServeFault}
+use Rattle.serve_command.specs.declared.fault.ServeFault.TheVariants as fault
+use Rattle.serve_command.specs.declared.served_update.ServedUpdate.{ServedUpdate}
 
 -- the name under which a source has the standard input
 abbrev pub input_name : List ℕ
@@ -22,21 +22,21 @@ input_of None = None
 input_of (Some files) = files input_name
 
 -- a driver that can be called, of the network and of as many rounds
-pub record Suits (place : Place) (v : DriverView) : Type 0 where
-  pub net : place.net.now ≡ v.net
-  pub rounds : place.rounds ≡ length v.rounds
+pub record Suits (update : ServedUpdate) (v : DriverView) : Type 0 where
+  pub net : update.net.now ≡ v.net
+  pub rounds : update.rounds ≡ length v.rounds
   pub serving : IsServing v
 
 -- a line stopped it: nothing of its block was written, or a front where writing failed
-abbrev pub StopsLine : Option (List ℕ) → Option (List ℕ) → List ℕ → Stop → Type 0
-StopsLine old new block stop.WriteFault = AppendsFront old new block
-StopsLine old new block stop.Memory = Keeps old new
+abbrev pub StopsLine : Option (List ℕ) → Option (List ℕ) → List ℕ → ServeFault → Type 0
+StopsLine old new block fault.WriteFault = AppendsFront old new block
+StopsLine old new block fault.Memory = Keeps old new
 
 -- one of these lines, which are answered by this text, stopped it: the text of those before it was written, and of its own a front
 -- where writing failed
-abbrev pub StopsAt : (List (List ℕ) → List ℕ) → Option (List ℕ) → Option (List ℕ) → List (List ℕ) → Stop → Type 0
-StopsAt text old new lines stop.WriteFault = AppendsFront old new (text lines)
-StopsAt text old new lines stop.Memory = (n : ℕ) × Appends old new (text (take n lines))
+abbrev pub StopsAt : (List (List ℕ) → List ℕ) → Option (List ℕ) → Option (List ℕ) → List (List ℕ) → ServeFault → Type 0
+StopsAt text old new lines fault.WriteFault = AppendsFront old new (text lines)
+StopsAt text old new lines fault.Memory = (n : ℕ) × Appends old new (text (take n lines))
 
 -- of these bytes all lines that have their line end were served: the driver is behind them, the blocks are written, and the rest
 -- is kept
@@ -60,8 +60,8 @@ AreAll (Some all) bytes = all ≡ bytes
 abbrev pub EndsAfter : (List (List ℕ) → List ℕ) → Option (List ℕ) → Option (List ℕ) → Option (List ℕ) → List ℕ → Status → Type 0
 EndsAfter text input old new taken status.Done = AreAll input taken × Appends old new (text (lines_in taken))
 EndsAfter text input old new taken status.ReadFault = IsFrontOf input taken × Appends old new (text (ended_lines taken))
-EndsAfter text input old new taken status.WriteFault = IsFrontOf input taken × StopsAt text old new (lines_in taken) stop.WriteFault
-EndsAfter text input old new taken status.Memory = IsFrontOf input taken × StopsAt text old new (lines_in taken) stop.Memory
+EndsAfter text input old new taken status.WriteFault = IsFrontOf input taken × StopsAt text old new (lines_in taken) fault.WriteFault
+EndsAfter text input old new taken status.Memory = IsFrontOf input taken × StopsAt text old new (lines_in taken) fault.Memory
 EndsAfter text input old new taken other = ⊥
 
 -- some bytes of the input were taken, as many as were counted, and serving ends so
@@ -81,6 +81,6 @@ abbrev pub EndsServing : (List (List ℕ) → List ℕ) → Option (List ℕ) �
 EndsServing text input old new counted result = EndsBefore text old new result ⊎ EndsInput text input old new counted result
 
 -- the status of a run that a line stops
-abbrev pub status_of : Stop → Status
-status_of stop.WriteFault = status.WriteFault
-status_of stop.Memory = status.Memory
+abbrev pub status_of : ServeFault → Status
+status_of fault.WriteFault = status.WriteFault
+status_of fault.Memory = status.Memory

@@ -19,7 +19,7 @@ ghost use Rattle.serve_command.specs.Stops.{EndsServing, input_of, input_name};
 
 use crate::greeting::serve_desk;
 use crate::lines::Desk;
-use crate::place::Place;
+use crate::served_update::ServedUpdate;
 use check_base::{CheckFiles, CheckNames, read_check_files};
 use command_base::{Exit, Reply, Status};
 use file_access::{Sink, Source, WriteFault, pour};
@@ -100,7 +100,7 @@ fn serve_both_ways<S: Source, K: Sink>(
 {
     match Driver::make(alloc, &files.update.net, &files.plan.rounds, inverses) {
         Ok(driver) => {
-            let place = Place {
+            let update = ServedUpdate {
                 alloc,
                 net: &files.update.net,
                 rounds: files.plan.rounds.count(),
@@ -109,7 +109,7 @@ fn serve_both_ways<S: Source, K: Sink>(
                 driver,
                 line: OpenLine::make(alloc),
             };
-            let status = serve_desk(&place, &mut desk, source, sink);
+            let status = serve_desk(&update, &mut desk, source, sink);
             drop(desk);
             status
         }

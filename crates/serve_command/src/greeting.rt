@@ -7,45 +7,56 @@ ghost use Rattle.two_way_driver.specs.Calls.{silent_view};
 ghost use Rattle.serve_command.specs.Served.{blocks, first_block};
 ghost use Rattle.serve_command.specs.Stops.{Suits, StopsLine, EndsInput, EndsServing, input_of, input_name};
 
+use crate::fault::ServeFault;
 use crate::input::{serve_input, status_of};
 use crate::lines::{Desk, write_block};
-use crate::place::Place;
-use crate::stop::Stop;
+use crate::served_update::ServedUpdate;
 use command_base::Status;
 use file_access::{Failed, Sink, Source};
 use net_base::Memory;
-use serve_lines::{Outcome, block_text};
+use serve_lines::{LineOutcome, block_text};
 use two_way_driver::Driver;
 
 /// The name under which a source has the standard input.
 const INPUT: &str = "/dev/stdin";
 
 /// The block of line 0; the driver forgets what it said.
-fn first_block(place: &Place<'_>, driver: &mut Driver<'_>) -> Result<Vec<u8>, Memory>
-    requires { Suits place.now driver.old }
+fn first_block(update: &ServedUpdate<'_>, driver: &mut Driver<'_>) -> Result<Vec<u8>, Memory>
+    requires { Suits update.now driver.old }
     ensures block { IfOk result (λ t. t.items ≡ first_block driver.old) }
     ensures behind { OnOk result (driver.new ≡ silent_view driver.old) }
-    ensures suits { OnOk result (Suits place.now driver.new) }
+    ensures suits { OnOk result (Suits update.now driver.new) }
 {
-    let outcome = Outcome::Went(driver.stage());
-    let block = block_text(place.alloc, place.net, place.rounds, driver.said(), outcome)?;
+    let outcome = LineOutcome::Went(driver.stage());
+    let block = block_text(
+        update.alloc,
+        update.net,
+        update.rounds,
+        driver.said(),
+        outcome,
+    )?;
     driver.forget();
     Ok(block)
 }
 
 /// Writes the block of line 0.
-fn greet<K: Sink>(place: &Place<'_>, driver: &mut Driver<'_>, sink: &mut K) -> Result<(), Stop>
-    requires { Suits place.now driver.old }
+fn greet<K: Sink>(
+    update: &ServedUpdate<'_>,
+    driver: &mut Driver<'_>,
+    sink: &mut K,
+) -> Result<(), ServeFault>
+    requires { Suits update.now driver.old }
     ensures all { OnOk result
         (Appends (K.written sink.old) (K.written sink.new) (first_block driver.old)) }
     ensures behind { OnOk result (driver.new ≡ silent_view driver.old) }
-    ensures suits { OnOk result (Suits place.now driver.new) }
+    ensures suits { OnOk result (Suits update.now driver.new) }
     ensures front { IfErr result
         (StopsLine (K.written sink.old) (K.written sink.new) (first_block driver.old)) }
-    ensures cause { IsErrOf result Stop.WriteFault → Rose (K.faults sink.old) (K.faults sink.new) }
+    ensures cause { IsErrOf result ServeFault.WriteFault
+        → Rose (K.faults sink.old) (K.faults sink.new) }
     ensures later { K.faults sink.old ≤ K.faults sink.new }
 {
-    let block = first_block(place, driver)?;
+    let block = first_block(update, driver)?;
     let written = write_block(sink, &block);
     drop(block);
     written
@@ -53,12 +64,12 @@ fn greet<K: Sink>(place: &Place<'_>, driver: &mut Driver<'_>, sink: &mut K) -> R
 
 /// Selects the standard input, and serves its lines.
 fn serve_selected<S: Source, K: Sink>(
-    place: &Place<'_>,
+    update: &ServedUpdate<'_>,
     desk: &mut Desk<'_>,
     source: &mut S,
     sink: &mut K,
 ) -> Status
-    requires suits { Suits place.now desk.old.driver }
+    requires suits { Suits update.now desk.old.driver }
     requires fresh { desk.old.line ≡ [] }
     ensures ends { EndsInput (blocks desk.old.driver) (input_of (S.held source.old))
         (K.written sink.old) (K.written sink.new) (S.taken source.new) result }
@@ -72,19 +83,19 @@ fn serve_selected<S: Source, K: Sink>(
     ensures later_sink { K.faults sink.old ≤ K.faults sink.new }
 {
     match source.select(INPUT) {
-        Ok(()) => serve_input(place, desk, source, sink),
+        Ok(()) => serve_input(update, desk, source, sink),
         Err(Failed) => Status::ReadFault,
     }
 }
 
 /// Serves a driver that was just made: writes the block of line 0, and then that of each line of the standard input.
 pub fn serve_desk<S: Source, K: Sink>(
-    place: &Place<'_>,
+    update: &ServedUpdate<'_>,
     desk: &mut Desk<'_>,
     source: &mut S,
     sink: &mut K,
 ) -> Status
-    requires suits { Suits place.now desk.old.driver }
+    requires suits { Suits update.now desk.old.driver }
     requires fresh { desk.old.line ≡ [] }
     ensures ends { EndsServing
         (λ lines. first_block desk.old.driver ++ blocks (silent_view desk.old.driver) lines)
@@ -99,8 +110,8 @@ pub fn serve_desk<S: Source, K: Sink>(
     ensures later_source { S.faults source.old ≤ S.faults source.new }
     ensures later_sink { K.faults sink.old ≤ K.faults sink.new }
 {
-    match greet(place, &mut desk.driver, sink) {
-        Ok(()) => serve_selected(place, desk, source, sink),
+    match greet(update, &mut desk.driver, sink) {
+        Ok(()) => serve_selected(update, desk, source, sink),
         Err(stop) => status_of(stop),
     }
 }

@@ -5,27 +5,27 @@ ghost use Rattle.two_way_driver.specs.Calls.{DriverView};
 ghost use Rattle.serve_command.specs.Served.{blocks};
 ghost use Rattle.serve_command.specs.Stops.{Suits, HasServed, AreAll, EndsAfter, EndsInput, status_of};
 
+use crate::fault::ServeFault;
 use crate::lines::{Desk, serve_last, serve_piece};
-use crate::place::Place;
-use crate::stop::Stop;
+use crate::served_update::ServedUpdate;
 use command_base::Status;
 use file_access::{Failed, Sink, Source};
 
 const PIECE: usize = 4096;
 
 /// The status of a run that a line stops.
-pub fn status_of(stop: Stop) -> Status
+pub fn status_of(stop: ServeFault) -> Status
     ensures { result ≡ status_of stop }
 {
     match stop {
-        Stop::WriteFault => Status::WriteFault,
-        Stop::Memory => Status::Memory,
+        ServeFault::WriteFault => Status::WriteFault,
+        ServeFault::Memory => Status::Memory,
     }
 }
 
 /// Serves what stands behind the last line end, at the end of the input.
-fn serve_end<K: Sink>(place: &Place<'_>, desk: &mut Desk<'_>, sink: &mut K) -> Status
-    requires { Suits place.now desk.old.driver }
+fn serve_end<K: Sink>(update: &ServedUpdate<'_>, desk: &mut Desk<'_>, sink: &mut K) -> Status
+    requires { Suits update.now desk.old.driver }
     ensures ends { (v : DriverView) (input old : Option (List ℕ)) (bytes : List ℕ)
         → AreAll input bytes
         → HasServed v old (K.written sink.old) bytes desk.old.driver desk.old.line
@@ -35,7 +35,7 @@ fn serve_end<K: Sink>(place: &Place<'_>, desk: &mut Desk<'_>, sink: &mut K) -> S
         → Rose (K.faults sink.old) (K.faults sink.new) }
     ensures later { K.faults sink.old ≤ K.faults sink.new }
 {
-    match serve_last(place, desk, sink) {
+    match serve_last(update, desk, sink) {
         Ok(()) => Status::Done,
         Err(stop) => status_of(stop),
     }
@@ -43,12 +43,12 @@ fn serve_end<K: Sink>(place: &Place<'_>, desk: &mut Desk<'_>, sink: &mut K) -> S
 
 /// Serves the lines of the current file of the source, up to its end. Behind 2^64 - 1 takes it ends as for want of memory.
 pub fn serve_input<S: Source, K: Sink>(
-    place: &Place<'_>,
+    update: &ServedUpdate<'_>,
     desk: &mut Desk<'_>,
     source: &mut S,
     sink: &mut K,
 ) -> Status
-    requires suits { Suits place.now desk.old.driver }
+    requires suits { Suits update.now desk.old.driver }
     requires fresh { desk.old.line ≡ [] }
     requires current { IsTrue (S.is_current source.old) }
     requires untaken { S.taken source.old ≡ 0 }
@@ -67,8 +67,8 @@ pub fn serve_input<S: Source, K: Sink>(
     'takes: for _ in 0..u64::MAX {
         match source.take(&mut piece) {
             Err(Failed) => return Status::ReadFault,
-            Ok(0) => return serve_end(place, desk, sink),
-            Ok(count) => match serve_piece(place, desk, sink, &piece[..count]) {
+            Ok(0) => return serve_end(update, desk, sink),
+            Ok(count) => match serve_piece(update, desk, sink, &piece[..count]) {
                 Ok(()) => {}
                 Err(stop) => return status_of(stop),
             },

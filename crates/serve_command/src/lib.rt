@@ -4,10 +4,10 @@
 
 mod answers;
 mod command;
+mod fault;
 mod greeting;
 mod input;
 mod lines;
-mod place;
-mod stop;
+mod served_update;
 
 pub use crate::command::serve;

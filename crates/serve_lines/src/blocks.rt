@@ -5,17 +5,16 @@ ghost use Rattle.schedule_replay.specs.Traces.{phase_line};
 ghost use Rattle.two_way_driver.specs.Laws.{phase_of};
 ghost use Rattle.serve_lines.specs.Blocks as blocks;
 
-use hex::encode;
 use net_base::{Memory, SwitchId};
 use schedule_replay::{add_line, switch_text};
 use std::alloc::Global;
-use switch_session::cause_text;
+use switch_session::{bytes_line, cause_line};
 use topology::Net;
-use two_way_driver::{Cause, DriverEvent, DriverOutput, Stage};
+use two_way_driver::{DriverEvent, DriverOutput, Stage};
 
 /// How a line ended.
 #[derive(Clone, Copy, Debug, PartialEq, Eq)]
-pub enum Outcome {
+pub enum LineOutcome {
     /// It was carried out, or was a comment, and the update is so far.
     Went(Stage),
     /// Refused: a round runs, or is already being taken back.
@@ -28,25 +27,6 @@ pub enum Outcome {
     NotOpen(SwitchId),
     /// The line has none of the forms of a line.
     BadLine,
-}
-
-/// The line on a message to a switch of this name.
-fn send_line(alloc: Global, name: &str, bytes: &[u8]) -> Result<Vec<u8>, Memory>
-    ensures { IfOk result (λ t. t.items ≡ blocks.send_line name.now bytes.now) }
-{
-    let digits = encode(alloc, bytes)?;
-    let mut text = format!(in alloc; "send {name} ")?.into_bytes();
-    text.extend_from_slice(digits.as_bytes())?;
-    Ok(text)
-}
-
-/// The line on a session that failed, with a switch of this name.
-fn failed_line(alloc: Global, name: &str, cause: Cause) -> Result<Vec<u8>, Memory>
-    ensures { IfOk result (λ t. t.items ≡ blocks.failed_line name.now cause) }
-{
-    let mut text = format!(in alloc; "failed {name} ")?.into_bytes();
-    text.extend_from_slice(&cause_text(alloc, cause)?)?;
-    Ok(text)
 }
 
 /// The line on an event.
@@ -68,13 +48,15 @@ fn said_line(alloc: Global, net: &Net, said: &DriverOutput) -> Result<Vec<u8>, M
     ensures { IfOk result (λ t. t.items ≡ blocks.said_line net.now said.now) }
 {
     match said {
-        DriverOutput::Send(switch, text) => send_line(
+        DriverOutput::Send(switch, text) => bytes_line(
             alloc,
+            "send ",
             switch_text(net, *switch),
             text.bytes(),
         ),
-        DriverOutput::Failed(switch, cause) => failed_line(
+        DriverOutput::Failed(switch, cause) => cause_line(
             alloc,
+            "failed ",
             switch_text(net, *switch),
             *cause,
         ),
@@ -155,17 +137,17 @@ fn outcome_line(
     alloc: Global,
     net: &Net,
     rounds: usize,
-    outcome: Outcome,
+    outcome: LineOutcome,
 ) -> Result<Vec<u8>, Memory>
     ensures { IfOk result (λ t. t.items ≡ blocks.outcome_line net.now rounds outcome) }
 {
     match outcome {
-        Outcome::Went(stage) => stage_line(alloc, rounds, stage),
-        Outcome::Running => Ok(b"no running".to_vec(alloc)?),
-        Outcome::Finished => Ok(b"no finished".to_vec(alloc)?),
-        Outcome::NotBegun => Ok(b"no begun".to_vec(alloc)?),
-        Outcome::NotOpen(switch) => not_open_line(alloc, switch_text(net, switch)),
-        Outcome::BadLine => Ok(b"bad line".to_vec(alloc)?),
+        LineOutcome::Went(stage) => stage_line(alloc, rounds, stage),
+        LineOutcome::Running => Ok(b"no running".to_vec(alloc)?),
+        LineOutcome::Finished => Ok(b"no finished".to_vec(alloc)?),
+        LineOutcome::NotBegun => Ok(b"no begun".to_vec(alloc)?),
+        LineOutcome::NotOpen(switch) => not_open_line(alloc, switch_text(net, switch)),
+        LineOutcome::BadLine => Ok(b"bad line".to_vec(alloc)?),
     }
 }
 
@@ -175,7 +157,7 @@ fn add_outcome(
     alloc: Global,
     net: &Net,
     rounds: usize,
-    outcome: Outcome,
+    outcome: LineOutcome,
 ) -> Result<(), Memory>
     ensures { OnOk result
         (text.new.items
@@ -194,7 +176,7 @@ pub fn block_text(
     net: &Net,
     rounds: usize,
     said: &[DriverOutput],
-    outcome: Outcome,
+    outcome: LineOutcome,
 ) -> Result<Vec<u8>, Memory>
     ensures { IfOk result
         (λ t. t.items ≡ blocks.block_text net.now rounds said.now outcome) }

@@ -8,7 +8,7 @@ mod line;
 mod open_line;
 mod read;
 
-pub use blocks::{Outcome, block_text};
+pub use blocks::{LineOutcome, block_text};
 pub use fault::LineFault;
 pub use line::ServeLine;
 pub use open_line::OpenLine;

@@ -21,7 +21,7 @@ use Rattle.two_way_driver.specs.declared.faults.CallFault.{CallFault}
 use Rattle.two_way_driver.specs.declared.faults.CallFault.TheVariants as fault
 use Rattle.two_way_driver.specs.declared.Stage.{Stage}
 use Rattle.two_way_driver.proofs.WordLaws.{calls_kept}
-use Rattle.driver_agreement.specs.Agreement.{two_way_call, Agree}
+use Rattle.update_driver.specs.Agreement.{two_way_call, Agree}
 use Rattle.drive_command.specs.declared.driving.DriveFault.{DriveFault}
 use Rattle.drive_command.specs.declared.driving.DriveFault.TheVariants.{NotARun}
 use Rattle.drive_command.specs.Driving.{after_input, after_inputs, driven_by, call_of, calls_of}
@@ -30,7 +30,7 @@ use Rattle.serve_lines.specs.Lines.{line_in}
 use Rattle.serve_lines.specs.declared.fault.LineFault.{LineFault}
 use Rattle.serve_lines.specs.declared.line.ServeLine.{ServeLine}
 use Rattle.serve_lines.specs.declared.line.ServeLine.TheVariants.{Comment, Start, Back, Reopen, Feed}
-use Rattle.serve_lines.specs.declared.blocks.Outcome.TheVariants.{Went}
+use Rattle.serve_lines.specs.declared.blocks.LineOutcome.TheVariants.{Went}
 use Rattle.serve_command.specs.Served.{call_outcome, refusal_of}
 use Rattle.serve_promise.specs.Told.{told_read, told_lines, call_read, call_in, calls_in}
 use Rattle.serve_promise.specs.Running.{EndsOk}

@@ -31,15 +31,15 @@ use Rattle.two_way_driver.proofs.SendingLaws.{each_call, all_calls}
 use Rattle.two_way_driver.proofs.ServingLaws.{fed-append}
 use Rattle.two_way_driver.proofs.WordLaws.{call_is}
 use Rattle.two_way_driver.proofs.XidLaws.{goes_on}
-use Rattle.driver_agreement.specs.Agreement.{two_way_call, Agree}
-use Rattle.driver_agreement.proofs.AgreeLaws.{both_agree}
+use Rattle.update_driver.specs.Agreement.{two_way_call, Agree}
+use Rattle.update_driver.proofs.AgreeLaws.{both_agree}
 use Rattle.drive_command.specs.Driving.{driven_by, calls_of}
 use Rattle.drive_command.proofs.InputLaws.{are_calls, driven_calls}
 use Rattle.serve_lines.specs.Lines.{line_in}
 use Rattle.serve_lines.specs.declared.fault.LineFault.{LineFault}
 use Rattle.serve_lines.specs.declared.line.ServeLine.{ServeLine}
 use Rattle.serve_lines.specs.declared.line.ServeLine.TheVariants.{Comment, Start, Back, Reopen, Feed}
-use Rattle.serve_lines.specs.declared.blocks.Outcome.TheVariants.{Went}
+use Rattle.serve_lines.specs.declared.blocks.LineOutcome.TheVariants.{Went}
 use Rattle.serve_command.specs.Served.{call_outcome, after_read, outcome_read, after_line}
 use Rattle.check_base.specs.Checks.{CheckMeaning, task_in, FilesMeanPlan}
 use Rattle.check_base.specs.Names.{CheckNames}
@@ -47,7 +47,7 @@ use Rattle.serve_promise.specs.Told.{told_first, told_line, driver_of, driver_be
 use Rattle.serve_promise.specs.Running.{state_on, TellsRun, TellsPhase, SendsBy, GoesOnBy, SendsAsAsked, AreCut, SaysTheSame, AreTaken, TellsAs}
 use Rattle.serve_promise.proofs.BlockLaws.{keeps_lines, behind-append, given, line_behind, words_are, driver_is, calls_within}
 use Rattle.serve_promise.proofs.DriveLaws.{refused_goes, takes_inputs}
-use Rattle.serve_promise.proofs.FileLaws.{net_keeps, old_user, new_user, good_rounds, turnable, drivable}
+use Rattle.serve_promise.proofs.FileLaws.{old_user, new_user, good_rounds, turnable, drivable}
 
 -- ---- how a line ended
 
@@ -153,7 +153,7 @@ module _ (files : Files) (names : CheckNames) (m : CheckMeaning) (mean : FilesMe
     as_drive lines inputs one are same driven =
         let rounds = m.plan.rounds in
         let calls = calls_of inputs in
-        let both : Agree net rounds (onward.driver_after net rounds calls) (driver_of m (map two_way_call calls)) = both_agree net rounds inverses (net_keeps files names m mean).few (drivable files names m mean) calls (are_calls net inputs are) in
+        let both : Agree net rounds (onward.driver_after net rounds calls) (driver_of m (map two_way_call calls)) = both_agree net rounds inverses (drivable files names m mean) calls (are_calls net inputs are) in
         let agree : Agree net rounds one (driver_of m (calls_in net lines)) =
         subst (λ (d : OnwardState). Agree net rounds d (driver_of m (calls_in net lines))) (sym (driven_calls net rounds inputs one driven))
         (subst (λ (cs : List Call). Agree net rounds (onward.driver_after net rounds calls) (driver_of m cs)) (sym same) both)
@@ -169,7 +169,7 @@ module _ (files : Files) (names : CheckNames) (m : CheckMeaning) (mean : FilesMe
         → (one : OnwardState) × (driven_by net m.plan.rounds inputs ≡ Ok one)
     drive_takes lines inputs are same taken =
         let rounds = m.plan.rounds in
-        let agree = both_agree net rounds inverses (net_keeps files names m mean).few (drivable files names m mean) in
+        let agree = both_agree net rounds inverses (drivable files names m mean) in
         (onward.driver_after net rounds (calls_of inputs), takes_inputs net rounds (driver_of m []) lines inputs refl agree are same taken)
 
   -- ---- messages

@@ -12,7 +12,7 @@ use Rattle.driver_input.specs.Inputs.{AreInputs}
 use Rattle.driver_input.specs.declared.inputs.InputLine.{InputLine}
 use Rattle.update_driver.specs.Drivers.{DriverState as OnwardState}
 use Rattle.two_way_driver.specs.Sending.{texts_to}
-use Rattle.driver_agreement.specs.Agreement.{two_way_call}
+use Rattle.update_driver.specs.Agreement.{two_way_call}
 use Rattle.serve_lines.specs.Lines.{ended_lines, lines_in}
 use Rattle.command_base.specs.declared.status.Status.{Status}
 use Rattle.command_base.specs.declared.status.Status.TheVariants as status

@@ -15,7 +15,7 @@ use Rattle.two_way_driver.specs.Sending.{texts_to, Sends, GoesOn}
 use Rattle.two_way_driver.specs.declared.Stage.{Stage}
 use Rattle.serve_lines.specs.Lines.{line_in}
 use Rattle.serve_lines.specs.declared.line.ServeLine.TheVariants.{Feed}
-use Rattle.serve_lines.specs.declared.blocks.Outcome.TheVariants.{Went}
+use Rattle.serve_lines.specs.declared.blocks.LineOutcome.TheVariants.{Went}
 use Rattle.check_base.specs.Checks.{CheckMeaning, task_in}
 use Rattle.serve_promise.specs.Told.{BlockContent, told_line, told_lines, told_on, said_in, driver_behind, call_in}
 

@@ -11,7 +11,7 @@ use Rattle.serve_lines.specs.Blocks.{block_text}
 use Rattle.serve_lines.specs.declared.fault.LineFault.{LineFault}
 use Rattle.serve_lines.specs.declared.line.ServeLine.{ServeLine}
 use Rattle.serve_lines.specs.declared.line.ServeLine.TheVariants.{Comment, Start, Back, Reopen, Feed}
-use Rattle.serve_lines.specs.declared.blocks.Outcome.{Outcome}
+use Rattle.serve_lines.specs.declared.blocks.LineOutcome.{LineOutcome}
 use Rattle.serve_command.specs.Served.{call_outcome, after_read, outcome_read, after_line, after_lines}
 use Rattle.check_base.specs.Checks.{CheckMeaning}
 
@@ -20,7 +20,7 @@ use Rattle.check_base.specs.Checks.{CheckMeaning}
 -- what a block tells: what the driver says, in order, and how the line ended
 pub record BlockContent : Type 0 where
   pub said : List DriverOutput
-  pub outcome : Outcome
+  pub outcome : LineOutcome
 
 -- the block that tells it, in an update of so many rounds
 abbrev pub block_of : Network → ℕ → BlockContent → List ℕ

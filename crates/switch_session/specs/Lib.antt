@@ -3,3 +3,4 @@ pub mod Channels
 pub mod Seen
 pub mod Laws
 pub mod Causes
+pub mod Lines

@@ -6,9 +6,11 @@ mod causes;
 mod channels;
 mod fronts;
 pub mod laws;
+mod lines;
 
 pub use causes::cause_text;
 pub use channels::Channel;
+pub use lines::{bytes_line, cause_line};
 
 /// Why a session failed.
 #[derive(Clone, Copy, Debug, PartialEq, Eq)]

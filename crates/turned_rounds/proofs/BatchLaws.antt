@@ -4,9 +4,11 @@ use Rattle.std.specs.Prelude.{filter}
 use Rattle.std.specs.List.{AllByRecursion, range_with_len}
 use Rattle.std.proofs.lemmas.Bool.{cond_both}
 use Rattle.std.proofs.lemmas.List.Elements.{filter-append}
+use Rattle.net_base.specs.Switches.{most_switches}
 use Rattle.net_base.specs.declared.ids.SwitchId.{SwitchId}
 use Rattle.net_base.proofs.MemberLaws.{each_append}
 use Rattle.topology.specs.Networks.{Network, switch_count}
+use Rattle.update_model.specs.Changes.{switch_of}
 use Rattle.update_model.specs.Ranges.{IsPlanChange}
 use Rattle.update_model.specs.declared.Change.{Change}
 use Rattle.round_messages.specs.Requests.{is_changed, switch_numbered, switches_changed}
@@ -109,3 +111,9 @@ batch_within net x round plan =
     let y = xid_behind x (length round) in
     each_append (λ (m : Outgoing). m.switch.0 < switch_count net) (change_messages x round) (barrier_messages y (switches_changed net round)) (changes_within net x round plan)
     (barriers_within net y (switches_changed net round) (switches_within (is_changed round) (switch_count net) 0 (switch_count net) (omega arith)))
+
+-- ---- where they are
+
+pub few_switches : (net : Network) (round : List Change) → switch_count net ≤ most_switches → AllByRecursion (IsPlanChange net) round → AllByRecursion (λ (c : Change). (switch_of c).0 < most_switches) round
+few_switches net [] few plan = tt
+few_switches net (c ∷ round) few plan = ((let here = plan.0.switch in omega arith), few_switches net round few plan.1)

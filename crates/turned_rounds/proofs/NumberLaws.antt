@@ -9,10 +9,10 @@ use Rattle.round_messages.specs.Requests.{Request, switches_changed, change_requ
 use Rattle.round_messages.proofs.Requests.{sent_from-append}
 use Rattle.turned_rounds.specs.Batches.{next_xid, xid_behind, change_message, barrier_message, change_messages, barrier_messages, outgoing_of, batch_of}
 
-next_is : (x : ℕ) → x < 4294967295 → next_xid x ≡ suc x
+pub next_is : (x : ℕ) → x < 4294967295 → next_xid x ≡ suc x
 next_is x less = cond-false (eqb x 4294967295) 1 (suc x) (ne_eqb x 4294967295 (λ e. omega arith))
 
-xid_is : (x n : ℕ) → x + n ≤ 4294967295 → xid_behind x n ≡ x + n
+pub xid_is : (x n : ℕ) → x + n ≤ 4294967295 → xid_behind x n ≡ x + n
 xid_is x zero few = let e : x ≡ x + zero = omega arith in e
 xid_is x (suc n) few =
     let e : suc x + n ≡ x + suc n = omega arith in

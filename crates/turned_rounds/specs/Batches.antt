@@ -1,5 +1,5 @@
 -- The messages of a round in the order in which they are sent, with xids that begin again behind the greatest.
-use Rattle.std.specs.Prelude.{ℕ, zero, suc, ◌==◌, ◌<◌, if◌then◌else◌, List, [], ◌∷◌, ◌++◌, length}
+use Rattle.std.specs.Prelude.{Bool, ℕ, zero, suc, ◌==◌, ◌<◌, if◌then◌else◌, List, [], ◌∷◌, ◌++◌, length}
 use Rattle.std.specs.List.{AllByRecursion}
 use Rattle.net_base.specs.declared.ids.SwitchId.{SwitchId}
 use Rattle.topology.specs.Networks.{Network, switch_count}
@@ -13,6 +13,10 @@ use Rattle.turned_rounds.specs.declared.outgoing.Outgoing.{Outgoing}
 -- the xid behind another: 1 behind the greatest number of 32 bits
 abbrev pub next_xid : ℕ → ℕ
 next_xid x = if x == 4294967295 then 1 else suc x
+
+-- the xid behind another, if that is used
+abbrev pub next_if : Bool → ℕ → ℕ
+next_if used x = if used then next_xid x else x
 
 -- the xid behind so many messages, the first of which has xid x
 abbrev pub xid_behind : ℕ → ℕ → ℕ

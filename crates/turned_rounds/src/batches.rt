@@ -1,14 +1,15 @@
 //! The messages of a round, in the order in which they are sent.
-ghost use Rattle.std.specs.Prelude.{◌≡◌, ◌∷◌, ◌++◌, [], length, filter, IfOk, OnOk};
+ghost use Rattle.std.specs.Prelude.{◌≡◌, ◌∷◌, ◌++◌, [], length, if◌then◌else◌, IfOk, OnOk};
 ghost use Rattle.std.specs.List.{AllByRecursion};
 ghost use Rattle.topology.specs.Networks.{switch_count};
 ghost use Rattle.update_model.specs.Ranges.{IsPlanChange};
 ghost use Rattle.round_messages.specs.Requests.{is_changed, switch_numbered, switches_changed};
-ghost use Rattle.turned_rounds.specs.Batches.{next_xid, xid_behind, change_message, barrier_message, change_messages, barrier_messages, batch_of, AreToSwitches};
+ghost use Rattle.turned_rounds.specs.Batches.{next_xid, next_if, xid_behind, change_message, barrier_message, change_messages, barrier_messages, batch_of, AreToSwitches};
 
 use crate::outgoing::{Outgoing, Text};
 use net_base::{Memory, SwitchId};
 use openflow10::{encode_barrier, encode_change};
+use round_messages::changed_switches;
 use std::alloc::Global;
 use topology::Net;
 use update_model::Change;
@@ -25,6 +26,13 @@ pub fn next_xid(xid: u32) -> u32
     ensures { result ≡ next_xid xid }
 {
     if xid == u32::MAX { 1 } else { xid + 1 }
+}
+
+/// The xid behind another, if that is used.
+pub fn next_if(used: bool, xid: u32) -> u32
+    ensures { result ≡ next_if used xid }
+{
+    if used { next_xid(xid) } else { xid }
 }
 
 /// Whether a round has a change at the switch of this number. It looks at each change.
@@ -90,16 +98,16 @@ impl Batch {
     }
 
     /// A barrier request to a switch, if it has a change.
-    fn put_if_changed(&mut self, round: &[Change], switch: SwitchId) -> Result<(), Memory>
+    fn put_if_changed(&mut self, changed: bool, switch: SwitchId) -> Result<(), Memory>
         ensures list { OnOk result
             (self.new.list.items
             ≡ self.old.list.items
-            ++ barrier_messages self.old.xid (filter (is_changed round.now) (switch ∷ []))) }
+            ++ barrier_messages self.old.xid (if changed then switch ∷ [] else [])) }
         ensures xid { OnOk result
             (self.new.xid
-            ≡ xid_behind self.old.xid (length (filter (is_changed round.now) (switch ∷ [])))) }
+            ≡ xid_behind self.old.xid (length (if changed then switch ∷ [] else []))) }
     {
-        if is_changed(round, switch.0) {
+        if changed {
             return self.put_barrier(switch);
         }
         Ok(())
@@ -107,6 +115,7 @@ impl Batch {
 
     /// A barrier request to each switch with a change, ascending.
     fn put_barriers(&mut self, round: &[Change], net: &Net) -> Result<(), Memory>
+        requires { AllByRecursion (IsPlanChange net.now) round.now }
         ensures list { OnOk result
             (self.new.list.items
             ≡ self.old.list.items
@@ -115,15 +124,18 @@ impl Batch {
             (self.new.xid
             ≡ xid_behind self.old.xid (length (switches_changed net.now round.now))) }
     {
+        net.keeps_rules();
+        let changed = changed_switches(round);
         for number in 0..net.switches() {
-            self.put_if_changed(round, SwitchId(number))?;
+            let switch = SwitchId(number);
+            self.put_if_changed(changed.has(switch), switch)?;
         }
         Ok(())
     }
 }
 
 /// The messages of a round, the first with this xid: its changes in order, then one barrier request to each switch with a
-/// change, ascending. It looks at each change once for each switch.
+/// change, ascending. It costs a look at the changes and at the switches.
 pub fn round_batch(alloc: Global, net: &Net, round: &[Change], xid: u32) -> Result<Batch, Memory>
     requires { AllByRecursion (IsPlanChange net.now) round.now }
     ensures list { IfOk result (λ b. b.list.items ≡ batch_of net.now xid round.now) }

@@ -5,5 +5,5 @@ mod batches;
 pub mod laws;
 mod outgoing;
 
-pub use batches::{Batch, is_changed, next_xid, round_batch};
+pub use batches::{Batch, is_changed, next_if, next_xid, round_batch};
 pub use outgoing::{Outgoing, Text};

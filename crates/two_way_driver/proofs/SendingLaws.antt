@@ -21,11 +21,11 @@ use Rattle.switch_session.specs.declared.fronts.Front.TheVariants.{Short, Fault,
 use Rattle.switch_session.proofs.FrontLaws.{fault_grows, message_grows}
 use Rattle.switch_session.proofs.RequestLaws.{requests_as, requests_failed, requests_both, reads_bytes}
 use Rattle.switch_session.proofs.TalkLaws.{front_nil}
-use Rattle.turned_rounds.specs.Batches.{xid_behind, batch_of}
+use Rattle.turned_rounds.specs.Batches.{next_if, xid_behind, batch_of}
 use Rattle.turned_rounds.specs.declared.outgoing.Outgoing.{Outgoing}
 use Rattle.two_way_driver.specs.PeerStates.{PeerState}
 use Rattle.two_way_driver.specs.Peers.{first_peer, opened_anew, heard_by, kept_of, peer_after, queued_peer, asks, asks_again, answers, reopened_peer}
-use Rattle.two_way_driver.specs.Drivers.{DriverState, peer_at, with_peer, with_said, send_if, sends, is_to_open, is_to, next_if, asked_from, sent_out, settled_in, all_answered, settled_if_answered, log_if, change_notes, undo_notes, made_state, undone_state, carried_out, answered_state, sent_again, opened_state, running_round, asked_round, heard_state, fed_byte, state_after_bytes, first_words, first_driver, flagged_state, started_in, turned_in, reopened_driver}
+use Rattle.two_way_driver.specs.Drivers.{DriverState, peer_at, with_peer, with_said, send_if, sends, is_to_open, is_to, asked_from, sent_out, settled_in, all_answered, settled_if_answered, log_if, change_notes, undo_notes, made_state, undone_state, carried_out, answered_state, sent_again, opened_state, running_round, asked_round, heard_state, fed_byte, state_after_bytes, first_words, first_driver, flagged_state, started_in, turned_in, reopened_driver}
 use Rattle.two_way_driver.specs.Calls.{DriverView, with_state, silent_view, start_fault, back_fault, started_view, turned_view}
 use Rattle.two_way_driver.specs.Laws.{Call, Start, Back, Reopen, Feed, IsCall, after_call, after_calls, driver_after}
 use Rattle.two_way_driver.specs.Words.{after_call_anew, said_by_each, joined_words}

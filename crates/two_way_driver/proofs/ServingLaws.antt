@@ -10,9 +10,10 @@ use Rattle.update_model.specs.Changes.{round_after}
 use Rattle.update_model.specs.declared.Change.{Change}
 use Rattle.round_messages.specs.Requests.{is_changed, switch_numbered}
 use Rattle.switch_session.specs.Channels.{after_byte}
+use Rattle.turned_rounds.specs.Batches.{next_if}
 use Rattle.two_way_driver.specs.PeerStates.{PeerState}
 use Rattle.two_way_driver.specs.Peers.{heard_by, peer_after, answers}
-use Rattle.two_way_driver.specs.Drivers.{DriverState, peer_at, with_peer, with_said, next_if, asked_from, sent_out, settled_in, all_answered, settled_if_answered, undo_notes, made_state, undone_state, carried_out, answered_state, sent_again, opened_state, running_round, asked_round, heard_state, fed_byte, state_after_bytes, flagged_state, started_with, undone_with, turned_with, start_fault_in, started_in, turned_in}
+use Rattle.two_way_driver.specs.Drivers.{DriverState, peer_at, with_peer, with_said, asked_from, sent_out, settled_in, all_answered, settled_if_answered, undo_notes, made_state, undone_state, carried_out, answered_state, sent_again, opened_state, running_round, asked_round, heard_state, fed_byte, state_after_bytes, flagged_state, started_with, undone_with, turned_with, start_fault_in, started_in, turned_in}
 use Rattle.two_way_driver.specs.Calls.{AreTurnable, DriverView, with_state, IsStageWithin, IsServing, start_fault, started_view, turned_view, fed_view}
 use Rattle.two_way_driver.specs.Inside.{heard_on, fed_on}
 use Rattle.two_way_driver.specs.declared.legs.Leg.{Leg}

@@ -5,13 +5,14 @@ use Rattle.net_base.specs.declared.ids.SwitchId.{SwitchId}
 use Rattle.update_model.specs.Changes.{switch_of}
 use Rattle.update_model.specs.declared.Change.{Change}
 use Rattle.round_messages.specs.Requests.{is_changed, switch_numbered}
+use Rattle.turned_rounds.specs.Batches.{next_if}
 use Rattle.turned_rounds.specs.declared.outgoing.Outgoing.{Outgoing}
 use Rattle.openflow10.specs.Layout.{number_at}
 use Rattle.switch_session.specs.Fronts.{front_of}
 use Rattle.switch_session.specs.Channels.{hello, first_channel, after_message, after_byte, after_bytes}
 use Rattle.two_way_driver.specs.PeerStates.{PeerState}
 use Rattle.two_way_driver.specs.Peers.{opened_anew}
-use Rattle.two_way_driver.specs.Drivers.{first_words, log_if, send_if, sends, change_notes, undo_notes, asks_if, next_if, asked_from}
+use Rattle.two_way_driver.specs.Drivers.{first_words, log_if, send_if, sends, change_notes, undo_notes, asks_if, asked_from}
 use Rattle.two_way_driver.specs.declared.DriverEvent.TheVariants as logged
 use Rattle.two_way_driver.specs.declared.DriverOutput.{DriverOutput}
 use Rattle.two_way_driver.specs.declared.DriverOutput.TheVariants.{Send}

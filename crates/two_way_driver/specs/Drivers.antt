@@ -8,7 +8,7 @@ use Rattle.update_model.specs.Changes.{switch_of, round_after}
 use Rattle.update_model.specs.declared.Change.{Change}
 use Rattle.round_messages.specs.Requests.{is_changed, switch_numbered, switches_changed}
 use Rattle.switch_session.specs.Channels.{hello, is_open, after_byte}
-use Rattle.turned_rounds.specs.Batches.{next_xid, xid_behind, batch_of}
+use Rattle.turned_rounds.specs.Batches.{next_if, xid_behind, batch_of}
 use Rattle.turned_rounds.specs.declared.outgoing.Outgoing.{Outgoing}
 use Rattle.two_way_driver.specs.PeerStates.{PeerState}
 use Rattle.two_way_driver.specs.Peers.{first_peer, heard_by, peer_after, asks, asks_again, answers, reopened_peer}
@@ -64,9 +64,6 @@ is_to s m = m.switch.0 == s.0
 -- a switch waits for the answer to a barrier request, if it has a change
 abbrev pub asks_if : Bool → ℕ → PeerState → PeerState
 asks_if changed x p = if changed then asks x p else p
-
-abbrev pub next_if : Bool → ℕ → ℕ
-next_if changed x = if changed then next_xid x else x
 
 -- the switches from number n on, each of which with a change in the round waits for the answer to its barrier request; the first of these has xid x
 abbrev pub asked_from : ℕ → List Change → ℕ → List PeerState → List PeerState

@@ -7,7 +7,7 @@ use Rattle.two_way_driver.specs.Drivers.{DriverState, peer_at, with_peer, with_s
 use Rattle.two_way_driver.specs.Calls.{DriverView}
 use Rattle.two_way_driver.specs.declared.DriverOutput.TheVariants.{Send, Failed}
 use Rattle.two_way_driver.specs.declared.legs.Leg.{Leg}
-use Rattle.two_way_driver.specs.declared.legs.Plan.{Plan}
+use Rattle.two_way_driver.specs.declared.legs.TurnablePlan.{TurnablePlan}
 use Rattle.two_way_driver.specs.declared.peers.ByteOutcome.{ByteOutcome}
 use Rattle.two_way_driver.specs.declared.peers.ByteOutcome.TheVariants.{Nothing, Opened, Answered, Replied, Broke}
 use Rattle.two_way_driver.specs.declared.Stage.{Stage}
@@ -19,7 +19,7 @@ abbrev pub state_of : Talks → DriverState
 state_of t = record { stage = t.stage; first = t.first; next = t.next; peers = t.peers.items; in_force = t.in_force.items; said = t.said.items }
 
 -- a driver of a plan, of which this is said with all switches
-abbrev pub view_of : Plan → Talks → DriverView
+abbrev pub view_of : TurnablePlan → Talks → DriverView
 view_of plan t = record { net = plan.net.now; rounds = plan.rounds.now; inverses = plan.inverses.now; state = state_of t }
 
 -- a round that is carried out has a next one whose number fits

@@ -6,7 +6,7 @@ ghost use Rattle.two_way_driver.specs.Calls.{AreTurnable, IsServing, IsCallRefus
 ghost use Rattle.two_way_driver.specs.Inside.{view_of};
 
 use crate::faults::CallFault;
-use crate::legs::{Plan, first_not_open, next_round};
+use crate::legs::{TurnablePlan, first_not_open, next_round};
 use crate::talks::Talks;
 use crate::{DriverOutput, Session, Stage};
 use net_base::{Memory, SwitchId};
@@ -21,7 +21,7 @@ use update_model::Rounds;
 /// sends messages, and logs events. It forgets what was said as soon as that is done.
 #[derive(Drop)]
 pub struct Driver<'a> {
-    plan: Plan<'a>,
+    plan: TurnablePlan<'a>,
     talks: Talks,
 }
 
@@ -35,7 +35,7 @@ impl<'a> Model for Driver<'a> {
 }
 
 /// The next round starts.
-fn start_on(plan: &Plan, talks: &mut Talks) -> Result<(), CallFault>
+fn start_on(plan: &TurnablePlan, talks: &mut Talks) -> Result<(), CallFault>
     requires { IsServing (view_of plan.now talks.old) }
     ensures allowed { OnOk result (start_fault (view_of plan.now talks.old) ≡ None) }
     ensures ok { OnOk result
@@ -50,7 +50,7 @@ fn start_on(plan: &Plan, talks: &mut Talks) -> Result<(), CallFault>
 }
 
 /// The round behind k others, which was settled last, begins to be taken back.
-fn undo_on(plan: &Plan, talks: &mut Talks, k: u32) -> Result<(), CallFault>
+fn undo_on(plan: &TurnablePlan, talks: &mut Talks, k: u32) -> Result<(), CallFault>
     requires serving { IsServing (view_of plan.now talks.old) }
     requires settled { talks.old.stage ≡ Stage.Settled (k + 1) }
     ensures allowed { OnOk result (back_fault (view_of plan.now talks.old) ≡ None) }
@@ -69,7 +69,7 @@ fn undo_on(plan: &Plan, talks: &mut Talks, k: u32) -> Result<(), CallFault>
 }
 
 /// The update turns back.
-fn back_on(plan: &Plan, talks: &mut Talks) -> Result<(), CallFault>
+fn back_on(plan: &TurnablePlan, talks: &mut Talks) -> Result<(), CallFault>
     requires { IsServing (view_of plan.now talks.old) }
     ensures allowed { OnOk result (back_fault (view_of plan.now talks.old) ≡ None) }
     ensures ok { OnOk result
@@ -90,7 +90,7 @@ fn back_on(plan: &Plan, talks: &mut Talks) -> Result<(), CallFault>
 }
 
 /// Bytes come from a switch.
-fn feed_on(plan: &Plan, talks: &mut Talks, s: SwitchId, bytes: &[u8]) -> Result<(), Memory>
+fn feed_on(plan: &TurnablePlan, talks: &mut Talks, s: SwitchId, bytes: &[u8]) -> Result<(), Memory>
     requires serving { IsServing (view_of plan.now talks.old) }
     requires switch { s.0 < switch_count plan.now.net.now }
     ensures { OnOk result
@@ -125,7 +125,7 @@ impl<'a> Driver<'a> {
     {
         let talks = Talks::make(alloc, net)?;
         Ok(Driver {
-            plan: Plan {
+            plan: TurnablePlan {
                 net,
                 rounds,
                 inverses,

@@ -17,7 +17,7 @@ use update_model::{Change, Rounds};
 
 /// The network, the rounds of an update, and those that take them back.
 #[derive(Clone, Copy)]
-pub struct Plan<'a> {
+pub struct TurnablePlan<'a> {
     pub(crate) net: &'a Net,
     pub(crate) rounds: &'a Rounds,
     pub(crate) inverses: &'a Rounds,
@@ -74,7 +74,7 @@ pub(crate) fn next_round(
     }
 }
 
-impl<'a> Plan<'a> {
+impl<'a> TurnablePlan<'a> {
     /// The running round in a stage.
     pub(crate) fn leg(&self, stage: Stage) -> Leg<'a>
         requires count { length self.now.inverses.now ≡ length self.now.rounds.now }

@@ -6,7 +6,7 @@ ghost use Rattle.update_model.specs.Ranges.{IsPlanChange};
 ghost use Rattle.turned_rounds.specs.Batches.{xid_behind};
 ghost use Rattle.switch_session.specs.Channels.{after_byte, hello};
 ghost use Rattle.two_way_driver.specs.Peers.{first_peer, heard_by, peer_after};
-ghost use Rattle.two_way_driver.specs.Drivers.{with_said, log_if, send_if, sends, is_to_open, is_to, asks_if, next_if, asked_from, sent_out, settled_in, all_answered, settled_if_answered, change_notes, undo_notes, made_state, undone_state, carried_out, answered_state, opened_state, heard_state, fed_byte, first_driver, first_words, flagged_state, started_with, undone_with, turned_with, reopened_driver};
+ghost use Rattle.two_way_driver.specs.Drivers.{with_said, log_if, send_if, sends, is_to_open, is_to, asks_if, asked_from, sent_out, settled_in, all_answered, settled_if_answered, change_notes, undo_notes, made_state, undone_state, carried_out, answered_state, opened_state, heard_state, fed_byte, first_driver, first_words, flagged_state, started_with, undone_with, turned_with, reopened_driver};
 ghost use Rattle.two_way_driver.specs.Inside.{state_of, FitsNext, heard_on, fed_on};
 ghost use Rattle.net_base.specs.Switches.{most_switches};
 
@@ -16,7 +16,7 @@ use crate::{DriverEvent, DriverOutput, Stage};
 use net_base::{Memory, SwitchId};
 use std::alloc::Global;
 use topology::Net;
-use turned_rounds::{Outgoing, Text, is_changed, next_xid, round_batch};
+use turned_rounds::{Outgoing, Text, is_changed, next_if, next_xid, round_batch};
 use update_model::Change;
 
 /// What is said with all switches, and how far the update is.
@@ -131,13 +131,6 @@ fn ask_if(peer: &mut Peer, changed: bool, xid: u32)
     if changed {
         peer.ask(xid);
     }
-}
-
-/// The xid behind another, if that is used.
-fn next_if(changed: bool, xid: u32) -> u32
-    ensures { result ≡ next_if changed xid }
-{
-    if changed { next_xid(xid) } else { xid }
 }
 
 /// The xid behind those of changes.

@@ -1,8 +1,12 @@
 pub mod ListLaws
+pub mod CountLaws
 pub mod SoundLaws
 pub mod PieceLaws
-pub mod RunLaws
 pub mod AskedLaws
+pub mod ByteLaws
+pub mod SwitchLaws
+pub mod MessageLaws
+pub mod AgreeLaws
 pub mod LogLaws
 pub mod SentLaws
 pub mod TurnLaws

@@ -1,12 +1,12 @@
 -- Places of lists, and tests of all elements.
 use Rattle.std.proofs.Common.{◌≡◌, ℕ, zero, suc, ◌<◌, Bool, true, false, ◌&&◌, List, [], ◌∷◌, length, replicate, set, get_or, refl, ap, arith}
-use Rattle.std.specs.Prelude.{slice_get, Some}
 use Rattle.std.specs.List.{AllByRecursion, list_all}
 
-pub get_replicate : {A : Type 0} (n i : ℕ) (a : A) → i < n → slice_get (replicate n a) i ≡ Some a
-get_replicate zero i a lt = absurd (omega arith)
-get_replicate (suc n) zero a lt = refl
-get_replicate (suc n) (suc i) a lt = get_replicate n i a (omega arith)
+-- each place of a list of one element has it, and so has each behind the list
+pub get_replicated : {A : Type 0} (n i : ℕ) (a : A) → get_or (replicate n a) i a ≡ a
+get_replicated zero i a = refl
+get_replicated (suc n) zero a = refl
+get_replicated (suc n) (suc i) a = get_replicated n i a
 
 and_parts_of : (a b : Bool) → (a && b) ≡ true → (a ≡ true) × (b ≡ true)
 and_parts_of true b e = (refl, e)

@@ -1,58 +1,77 @@
--- What holds of the log and the barriers of every driver.
-use Rattle.std.proofs.Common.{◌≡◌, ℕ, suc, Bool, true, cond, eqb, List, [], ◌∷◌, ◌++◌}
-use Rattle.std.specs.Prelude.{is_none}
+-- What holds of the log and the barriers of every driver: it logs what a driver logs that can turn back and isn't turned.
+use Rattle.std.proofs.Common.{◌≡◌, ℕ, List, [], ◌∷◌, map, refl, subst}
 use Rattle.std.specs.List.{AllByRecursion}
-use Rattle.std.proofs.lemmas.Bool.{cond_both}
-use Rattle.net_base.specs.declared.ids.SwitchId.{SwitchId}
-use Rattle.net_base.proofs.MemberLaws.{each_append}
 use Rattle.topology.specs.Networks.{Network}
-use Rattle.update_model.specs.Changes.{switch_of}
-use Rattle.update_model.specs.States.{phase_after_settle, settled_count}
-use Rattle.update_model.specs.Worlds.{running_round}
 use Rattle.update_model.specs.declared.Change.{Change}
 use Rattle.update_model.specs.declared.Event.{Event}
-use Rattle.update_model.specs.declared.Event.TheVariants as event
-use Rattle.switch_session.specs.Channels.{after_bytes}
-use Rattle.update_driver.specs.Drivers.{DriverState, first_driver, channel_at, with_channel, none_outstanding, settled_if_answered, change_events, made_driver, is_answered, driver_after_bytes, told_all, started_driver, start_fault, started_phase}
-use Rattle.update_driver.specs.Calls.{Call, Start, Feed, IsCall, AreDrivable, after_call, after_calls, driver_after}
+use Rattle.two_way_runs.specs.Runs.{IsTwoWayRun}
+use Rattle.two_way_runs.specs.States as two_way
+use Rattle.two_way_runs.specs.States.{TwoWayEvent}
+use Rattle.two_way_runs.proofs.NeverBack.{onward_runs}
+use Rattle.two_way_driver.specs.Calls.{AreTurnable}
+use Rattle.two_way_driver.specs.Laws as turning
+use Rattle.two_way_driver.specs.Laws.{rollout_of, event_of, events_in}
+use Rattle.two_way_driver.specs.declared.DriverEvent.{DriverEvent}
+use Rattle.two_way_driver.specs.declared.DriverEvent.TheVariants as logged
+use Rattle.two_way_driver.specs.declared.DriverOutput.{DriverOutput}
+use Rattle.two_way_driver.specs.declared.DriverOutput.TheVariants.{Send, Failed, Log}
+use Rattle.two_way_driver.proofs.RunLaws.{says_run}
+use Rattle.update_driver.specs.Calls.{Call, Start, Feed, IsCall, AreDrivable, driver_after}
 use Rattle.update_driver.specs.Laws.{IsOfUpdate, LogIsRun, WaitsForBarriers}
-use Rattle.update_driver.proofs.SoundLaws.{sound_driver, begun}
-use Rattle.update_driver.proofs.RunLaws.{log_follows}
-use Rattle.update_driver.proofs.AskedLaws.{are_asked}
+use Rattle.update_driver.specs.Agreement.{two_way_call}
+use Rattle.update_driver.proofs.SoundLaws.{sound_driver}
+use Rattle.update_driver.proofs.AgreeLaws.{both_agree}
 
-events_are : (s : SwitchId) (i : ℕ) (changes : List Change) → AllByRecursion IsOfUpdate (change_events s i changes)
-events_are s i [] = tt
-events_are s i (c ∷ changes) =
-    let rest = events_are s (suc i) changes in
-    cond_both (eqb (switch_of c).0 s.0) (event.Change i ∷ change_events s (suc i) changes) (change_events s (suc i) changes) (AllByRecursion IsOfUpdate) (λ e. (tt, rest)) (λ e. rest)
+-- ---- a driver that can turn back says no event of a packet
 
-abbrev HasNoPackets : DriverState → Type 0
-HasNoPackets d = AllByRecursion IsOfUpdate d.log
+abbrev IsOfDriver : TwoWayEvent → Type 0
+IsOfDriver (two_way.Onward e) = IsOfUpdate e
+IsOfDriver two_way.Back = Unit {0}
+IsOfDriver (two_way.Undo i) = Unit {0}
+IsOfDriver two_way.SettleBack = Unit {0}
 
-none_settled : (d : DriverState) → HasNoPackets d → HasNoPackets (settled_if_answered d)
-none_settled d h =
-    cond_both (none_outstanding d.channels) (record d { phase = phase_after_settle d.phase; log = d.log ++ event.Settle ∷ [] }) d HasNoPackets (λ e. each_append IsOfUpdate d.log (event.Settle ∷ []) h (tt, tt)) (λ e. h)
+one_event : (e : DriverEvent) → IsOfDriver (event_of e)
+one_event logged.Start = tt
+one_event (logged.Change i) = tt
+one_event logged.Settle = tt
+one_event logged.Back = tt
+one_event (logged.Undo i) = tt
+one_event logged.SettleBack = tt
+
+are_of_driver : (said : List DriverOutput) → AllByRecursion IsOfDriver (events_in said)
+are_of_driver [] = tt
+are_of_driver (Send s text ∷ said) = are_of_driver said
+are_of_driver (Failed s cause ∷ said) = are_of_driver said
+are_of_driver (Log e ∷ said) = (one_event e, are_of_driver said)
+
+are_of_update : (log : List Event) → AllByRecursion IsOfDriver (map two_way.Onward log) → AllByRecursion IsOfUpdate log
+are_of_update [] h = tt
+are_of_update (e ∷ log) h = (h.0, are_of_update log h.1)
+
+-- ---- the log
 
 module _ (net : Network) (rounds : List (List Change)) where
-  none_called : (d : DriverState) (c : Call) → HasNoPackets d → HasNoPackets (after_call net rounds d c)
-  none_called d Start h =
-      cond_both (is_none (start_fault net rounds d)) (started_driver net rounds d) d HasNoPackets (λ e. none_settled (begun net rounds d) (each_append IsOfUpdate d.log (event.Start ∷ []) h (tt, tt))) (λ e. h)
-  none_called d (Feed s bytes) h =
-      let after = after_bytes bytes (channel_at d s) in
-      let events = change_events s 0 (running_round d.phase rounds) in
-      let next : DriverState = record (with_channel s after d) { log = d.log ++ events } in
-      cond_both (is_answered (channel_at d s).outstanding after.outstanding) (made_driver rounds s (with_channel s after d)) (with_channel s after d) HasNoPackets
-      (λ e. none_settled next (each_append IsOfUpdate d.log events h (events_are s 0 (running_round d.phase rounds)))) (λ e. h)
+  are_calls : (calls : List Call) → AllByRecursion (IsCall net) calls → AllByRecursion (turning.IsCall net) (map two_way_call calls)
+  are_calls [] ok = tt
+  are_calls (Start ∷ calls) ok = (tt, are_calls calls ok.1)
+  are_calls (Feed s bytes ∷ calls) ok = (ok.0, are_calls calls ok.1)
 
-  none_after : (d : DriverState) (calls : List Call) → HasNoPackets d → HasNoPackets (after_calls net rounds d calls)
-  none_after d [] h = h
-  none_after d (c ∷ calls) h = none_after (after_call net rounds d c) calls (none_called d c h)
+  -- the driver isn't turned, so it makes no difference which rounds would take its rounds back
+  are_turnable : AreDrivable net rounds → AreTurnable net rounds rounds
+  are_turnable drivable = record { few = drivable.few_rounds; plan = drivable.plan; count = refl; back_plan = drivable.plan; same = λ k s. refl }
 
   pub log_is_run : (calls : List Call) → AreDrivable net rounds → AllByRecursion (IsCall net) calls → LogIsRun net rounds (driver_after net rounds calls).log
-  log_is_run calls drivable ok = record {
-    run = λ old good. log_follows net rounds old good (are_asked net rounds drivable.plan) calls ok;
-    no_packets = none_after (first_driver net) calls tt;
-  }
+  log_is_run calls drivable ok =
+      let log = (driver_after net rounds calls).log in
+      let turned = map two_way_call calls in
+      let both = both_agree net rounds rounds drivable calls ok in
+      record {
+        run = λ old good.
+            let u = rollout_of net old rounds in
+            let says = says_run net rounds rounds old good (are_turnable drivable) turned (are_calls calls ok) in
+            (onward_runs u log).0 (subst (IsTwoWayRun u) both.events says.run);
+        no_packets = are_of_update log (subst (AllByRecursion IsOfDriver) both.events (are_of_driver (turning.driver_after net rounds rounds turned).state.said));
+      }
 
   pub waits_for_barriers : (calls : List Call) → WaitsForBarriers (driver_after net rounds calls)
   waits_for_barriers calls = (sound_driver net rounds calls).waits

@@ -142,7 +142,7 @@ never_itself None = refl
 never_itself (Some n) = refl
 
 -- no bytes make no difference
-fed-nil : (rounds : List (List Change)) (s : SwitchId) (d : DriverState) → driver_after_bytes rounds s [] d ≡ d
+pub fed-nil : (rounds : List (List Change)) (s : SwitchId) (d : DriverState) → driver_after_bytes rounds s [] d ≡ d
 fed-nil rounds s d =
     let c = channel_at d s in
     cond-false (is_answered c.outstanding c.outstanding) (made_driver rounds s (with_channel s c d)) (with_channel s c d) (never_itself c.outstanding)

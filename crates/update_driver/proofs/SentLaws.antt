@@ -31,6 +31,7 @@ use Rattle.switch_session.proofs.RequestLaws.{requests_first, requests_as, reque
 use Rattle.update_driver.specs.Drivers.{DriverState, first_driver, channel_at, with_channel, none_outstanding, settled_if_answered, change_events, made_driver, is_answered, heard_driver, driver_after_bytes, messages_for, barrier_in, told_channel, told_all, started_driver, start_fault, started_phase}
 use Rattle.update_driver.specs.Calls.{Call, Start, Feed, IsCall, AreDrivable, bytes_in, bytes_from, after_call, after_calls, driver_after}
 use Rattle.update_driver.specs.Laws.{Part, Reply, Ask, part_text, request_in, message_in, begun_count, messages_until, SendsOnly}
+use Rattle.update_driver.proofs.ListLaws.{get_replicated}
 use Rattle.update_driver.proofs.SoundLaws.{IsSound, MayBegin, sound_first, sound_call, may_begin, begun, none_is, begun_settled}
 use Rattle.update_driver.proofs.AskedLaws.{barrier_for, told_at}
 
@@ -305,11 +306,6 @@ module _ (net : Network) (rounds : List (List Change)) (plan : AllByRecursion (A
       (λ s. append_assoc (came s) (bytes_in s c) (bytes_from s calls))
       (all_after (with_call came c) (after_call net rounds d c) calls ok.1 (sound_call net rounds d c sound) (all_called came d c ok.0 sound h))
 
-  first_at : (n i : ℕ) → get_or (replicate n first_channel) i first_channel ≡ first_channel
-  first_at zero i = refl
-  first_at (suc n) zero = refl
-  first_at (suc n) (suc i) = first_at n i
-
   each_from_none : (xs : List Sent) → AllByRecursion (λ (m : Sent). 0 ≤ m.round) xs
   each_from_none [] = tt
   each_from_none (x ∷ xs) = (omega arith, each_from_none xs)
@@ -325,7 +321,7 @@ module _ (net : Network) (rounds : List (List Change)) (plan : AllByRecursion (A
         requests = requests_first first_channel refl;
         reads = λ going. front_nil;
       } in
-      subst (SentSo (messages_until 0 s sent) []) (sym (first_at (switch_count net) s.0)) (subst (λ l. SentSo l [] first_channel) (sym none) start)
+      subst (SentSo (messages_until 0 s sent) []) (sym (get_replicated (switch_count net) s.0 first_channel)) (subst (λ l. SentSo l [] first_channel) (sym none) start)
 
   pub sends_only : (calls : List Call) → AllByRecursion (IsCall net) calls → (s : SwitchId) → s.0 < switch_count net → SendsOnly net rounds (bytes_from s calls) (driver_after net rounds calls) s
   sends_only calls ok s lt =

@@ -105,7 +105,7 @@ module _ (net : Network) (rounds : List (List Change)) where
       cond_both (is_answered (channel_at d s).outstanding after.outstanding) (made_driver rounds s (with_channel s after d)) (with_channel s after d) (IsSound net rounds)
       (λ e. sound_made (with_channel s after d) s next) (λ e. next)
 
-  length-told_all : (k n : ℕ) (channels : List ChannelState) → length (told_all net rounds k n channels) ≡ length channels
+  pub length-told_all : (k n : ℕ) (channels : List ChannelState) → length (told_all net rounds k n channels) ≡ length channels
   length-told_all k n [] = refl
   length-told_all k n (c ∷ channels) = ap suc (length-told_all k (suc n) channels)
 

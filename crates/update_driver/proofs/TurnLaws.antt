@@ -1,310 +1,159 @@
--- Messages that are put into turns one after the other.
-use Rattle.std.proofs.Common.{◌≡◌, ℕ, suc, ◌+◌, ◌<◌, true, false, cond, eqb, ◌||◌, List, [], ◌∷◌, ◌++◌, length, map, take, get_or, refl, sym, ap, ◌∙◌, subst, inl, inr, append_assoc, append-nil, length-append, arith}
-use Rattle.std.specs.Prelude.{flat_map, filter, Option, Some, None}
-use Rattle.std.specs.List.{range_with_len}
-use Rattle.std.proofs.lemmas.Bool.{cases_Bool, cases_eq, eq-eqb, ne_eqb, cond-true, cond-false}
-use Rattle.std.proofs.lemmas.List.{take_more, length-take-le, map-append, length-map}
-use Rattle.std.proofs.lemmas.List.FromFn.{filter_of_map_range_with_len_more}
-use Rattle.std.proofs.lemmas.Grind.{flat_map-append}
+-- The messages of a round, to each switch, and the changes of a switch that are logged.
+use Rattle.std.proofs.Common.{◌≡◌, ℕ, zero, suc, ◌+◌, ◌<◌, ◌≤◌, Bool, true, false, cond, eqb, List, [], ◌∷◌, ◌++◌, length, map, take, drop, get_or, refl, sym, ap, ◌∙◌, subst, inl, inr, append_assoc, append-nil, add-one, drop-cons, arith}
+use Rattle.std.specs.Prelude.{filter, flat_map, None}
+use Rattle.std.specs.List.{concat}
+use Rattle.std.proofs.lemmas.Bool.{cases_Bool, cases_eq, eq-eqb, ne_eqb}
+use Rattle.std.proofs.lemmas.List.{take_more, map-append}
+use Rattle.std.proofs.lemmas.List.Elements.{filter-append}
+use Rattle.std.proofs.lemmas.List.Folds.{concat-append}
+use Rattle.net_base.specs.Switches.{has}
 use Rattle.net_base.specs.declared.ids.SwitchId.{SwitchId}
 use Rattle.topology.specs.Networks.{Network, switch_count}
 use Rattle.update_model.specs.Changes.{switch_of}
 use Rattle.update_model.specs.declared.Change.{Change}
-use Rattle.update_model.specs.declared.Change.TheVariants.{Insert, Delete, Replace}
 use Rattle.update_model.specs.declared.Event.{Event}
 use Rattle.update_model.specs.declared.Event.TheVariants as event
-use Rattle.openflow10.specs.Messages.{wire_text, message_of}
-use Rattle.openflow10.specs.declared.Message.{Message}
-use Rattle.openflow10.specs.declared.Message.TheVariants.{Flow, BarrierRequest, BarrierReply}
-use Rattle.round_messages.specs.Requests.{Sent, Request, is_changed, switch_numbered, switches_changed, change_request, barrier_request, round_requests, sent_for, sent_from}
+use Rattle.openflow10.specs.Messages.{wire_text}
+use Rattle.round_messages.specs.Requests.{is_changed, switch_numbered, switches_changed, round_requests, sent_from}
 use Rattle.round_messages.specs.ToSwitch.{messages_to}
-use Rattle.round_messages.proofs.Requests.{sent_from-append}
-use Rattle.round_messages.proofs.BySwitch.{messages_to-append}
+use Rattle.round_messages.proofs.Marking.{HasChanged}
+use Rattle.round_messages.proofs.BySwitch.{no_barrier}
+use Rattle.turned_rounds.specs.Batches.{next_if, batch_of}
+use Rattle.turned_rounds.specs.declared.outgoing.Outgoing.{Outgoing}
+use Rattle.turned_rounds.proofs.NumberLaws.{next_is}
+use Rattle.two_way_driver.specs.Drivers.{is_to}
+use Rattle.two_way_driver.specs.Sending.{texts_for}
 use Rattle.update_driver.specs.Drivers.{change_events, barrier_in}
-use Rattle.update_driver.specs.Inside.{HoldMessages, HoldEvents, AreUnasked, PutsMessage, PutsBarriers, TakesTurn, barriers_below}
+use Rattle.update_driver.specs.Inside.{AreEmpty, PutsText, HoldTexts, ask_turn, asked_turns, HoldMessages}
 use Rattle.update_driver.specs.declared.turns.SwitchStart.{SwitchStart}
-use Rattle.update_driver.specs.declared.turns.SwitchStarts.{SwitchStarts}
+use Rattle.update_driver.proofs.CountLaws.{round_parts}
+use Rattle.update_driver.proofs.MessageLaws.{concat_texts, changed_from, changed_first, changed_later, barriers_to, barrier_here, barrier_past, batch_texts, barrier_is}
 
--- ---- lists
+-- ---- texts
 
--- a message behind others, by the barrier request among them
-barrier_in-change : (ms : List Message) (c : Change) (xid : ℕ) → barrier_in (ms ++ message_of c xid ∷ []) ≡ barrier_in ms
-barrier_in-change [] (Insert s r) xid = refl
-barrier_in-change [] (Delete s r) xid = refl
-barrier_in-change [] (Replace s r) xid = refl
-barrier_in-change (Flow m ∷ ms) c xid = barrier_in-change ms c xid
-barrier_in-change (BarrierRequest n ∷ ms) c xid = refl
-barrier_in-change (BarrierReply n ∷ ms) c xid = barrier_in-change ms c xid
+texts-append : (s : SwitchId) (xs ys : List Outgoing) → texts_for s (xs ++ ys) ≡ texts_for s xs ++ texts_for s ys
+texts-append s xs ys = ap (map (λ (m : Outgoing). m.text)) (filter-append (is_to s) xs ys) ∙ map-append (λ (m : Outgoing). m.text) (filter (is_to s) xs) (filter (is_to s) ys)
 
-barrier_in-barrier : (ms : List Message) (xid : ℕ) → barrier_in ms ≡ None → barrier_in (ms ++ BarrierRequest xid ∷ []) ≡ Some xid
-barrier_in-barrier [] xid none = refl
-barrier_in-barrier (Flow m ∷ ms) xid none = barrier_in-barrier ms xid none
-barrier_in-barrier (BarrierRequest n ∷ ms) xid none = absurd (let f : Some n ≡ None = none in cc)
-barrier_in-barrier (BarrierReply n ∷ ms) xid none = barrier_in-barrier ms xid none
+pub none_put : (turns : List SwitchStart) → AreEmpty turns → HoldTexts [] (length turns) turns
+none_put turns empty = record { count_is = refl; text = λ s d lt. (empty s d lt).text; unasked = λ s d lt. (empty s d lt).barrier }
 
--- one change more, by its switch
-change_events-more : (s : SwitchId) (i : ℕ) (cs : List Change) (c : Change) → change_events s i (cs ++ c ∷ []) ≡ change_events s i cs ++ change_events s (i + length cs) (c ∷ [])
-change_events-more s i [] c = ap (λ (n : ℕ). change_events s n (c ∷ [])) (omega arith)
-change_events-more s i (d ∷ cs) c =
-    let place : suc i + length cs ≡ i + suc (length cs) = omega arith in
-    let rest : change_events s (suc i) (cs ++ c ∷ []) ≡ change_events s (suc i) cs ++ change_events s (i + suc (length cs)) (c ∷ []) =
-    change_events-more s (suc i) cs c ∙ ap (λ (n : ℕ). change_events s (suc i) cs ++ change_events s n (c ∷ [])) place in
-    elim (eqb (switch_of d).0 s.0) as (λ b. cond b (event.Change i ∷ change_events s (suc i) (cs ++ c ∷ [])) (change_events s (suc i) (cs ++ c ∷ []))
-    ≡ cond b (event.Change i ∷ change_events s (suc i) cs) (change_events s (suc i) cs) ++ change_events s (i + suc (length cs)) (c ∷ [])) [
-      | true ↦ ap (λ l. event.Change i ∷ l) rest
-      | false ↦ rest
-    ]
+module _ (messages : List Outgoing) (i count : ℕ) (m : Outgoing) (a b : List SwitchStart) (so_far : HoldTexts (take i messages) count a) (lt : i < length messages) (is : get_or messages i m ≡ m) (puts : PutsText m a b) where
+  one_more : (s : SwitchId) → concat (texts_for s (take (i + 1) messages)) ≡ concat (texts_for s (take i messages)) ++ concat (texts_for s (m ∷ []))
+  one_more s =
+      ap (λ (l : List Outgoing). concat (texts_for s l)) (take_more messages i m lt ∙ ap (λ (x : Outgoing). take i messages ++ x ∷ []) is)
+      ∙ ap concat (texts-append s (take i messages) (m ∷ [])) ∙ concat-append (texts_for s (take i messages)) (texts_for s (m ∷ []))
 
-here_event : (s : SwitchId) (i : ℕ) (c : Change) → eqb (switch_of c).0 s.0 ≡ true → change_events s i (c ∷ []) ≡ event.Change i ∷ []
-here_event s i c e = cond-true (eqb (switch_of c).0 s.0) (event.Change i ∷ []) [] e
+  -- what a message says to a switch
+  abbrev said_to : Bool → List ℕ
+  said_to t = concat (map (λ (o : Outgoing). o.text) (cond t (m ∷ []) []))
 
-no_event : (s : SwitchId) (i : ℕ) (c : Change) → eqb (switch_of c).0 s.0 ≡ false → change_events s i (c ∷ []) ≡ []
-no_event s i c e = cond-false (eqb (switch_of c).0 s.0) (event.Change i ∷ []) [] e
-
--- a switch has an event where it has a change
-pub unchanged_none : (s : SwitchId) (i : ℕ) (cs : List Change) → is_changed cs s ≡ false → change_events s i cs ≡ []
-unchanged_none s i [] e = refl
-unchanged_none s i (c ∷ cs) e =
-    elim (cases_Bool (eqb (switch_of c).0 s.0)) [
-      | inl here ↦ absurd (let f : (eqb (switch_of c).0 s.0 || is_changed cs s) ≡ true = rw here refl in let g : true ≡ false = sym f ∙ e in cc)
-      | inr away ↦ (
-          let rest : is_changed cs s ≡ false = sym (ap (λ b. b || is_changed cs s) away) ∙ e in
-          cond-false (eqb (switch_of c).0 s.0) (event.Change i ∷ change_events s (suc i) cs) (change_events s (suc i) cs) away ∙ unchanged_none s (suc i) cs rest)
-    ]
-
-pub changed_some : (s : SwitchId) (i : ℕ) (cs : List Change) → is_changed cs s ≡ true → change_events s i cs ≡ [] → ⊥
-changed_some s i [] e none = let f : false ≡ true = e in cc
-changed_some s i (c ∷ cs) e none =
-    elim (cases_Bool (eqb (switch_of c).0 s.0)) [
-      | inl here ↦ (let f : event.Change i ∷ change_events s (suc i) cs ≡ [] = sym (cond-true (eqb (switch_of c).0 s.0) (event.Change i ∷ change_events s (suc i) cs) (change_events s (suc i) cs) here) ∙ none in cc)
-      | inr away ↦ (
-          let rest : is_changed cs s ≡ true = sym (ap (λ b. b || is_changed cs s) away) ∙ e in
-          changed_some s (suc i) cs rest (sym (cond-false (eqb (switch_of c).0 s.0) (event.Change i ∷ change_events s (suc i) cs) (change_events s (suc i) cs) away) ∙ none))
-    ]
-
--- ---- one message more
-
--- what a switch gets of one message
-one_here : (k : ℕ) (s t : SwitchId) (m : Message) → eqb t.0 s.0 ≡ true → messages_to k s ((let x : Sent = record { round = k; switch = t; message = m } in x) ∷ []) ≡ m ∷ []
-one_here k s t m here = let same : eqb k k ≡ true = eq-eqb k k refl in rw (same, here) refl
-
-one_away : (k : ℕ) (s t : SwitchId) (m : Message) → eqb t.0 s.0 ≡ false → messages_to k s ((let x : Sent = record { round = k; switch = t; message = m } in x) ∷ []) ≡ []
-one_away k s t m away = let same : eqb k k ≡ true = eq-eqb k k refl in rw (same, away) refl
-
-flat_map-one : (ms : List Message) (m : Message) → flat_map wire_text (ms ++ m ∷ []) ≡ flat_map wire_text ms ++ wire_text m
-flat_map-one ms m = flat_map-append wire_text ms (m ∷ []) ∙ ap (λ l. flat_map wire_text ms ++ l) (append-nil (wire_text m))
-
-module _ (k : ℕ) (sent : List Sent) (t : SwitchId) (m : Message) (events : List Event) (f : Option ℕ → Option ℕ) (a b : SwitchStarts) where
-  abbrev one : Sent
-  one = record { round = k; switch = t; message = m }
-
-  more_here : (s : SwitchId) → eqb t.0 s.0 ≡ true → messages_to k s (sent ++ one ∷ []) ≡ messages_to k s sent ++ m ∷ []
-  more_here s here = messages_to-append k s sent (one ∷ []) ∙ ap (λ l. messages_to k s sent ++ l) (one_here k s t m here)
-
-  more_away : (s : SwitchId) → eqb t.0 s.0 ≡ false → messages_to k s (sent ++ one ∷ []) ≡ messages_to k s sent
-  more_away s away = messages_to-append k s sent (one ∷ []) ∙ ap (λ l. messages_to k s sent ++ l) (one_away k s t m away) ∙ append-nil (messages_to k s sent)
-
-  pub hold_more : HoldMessages k sent a.list.items → PutsMessage t.0 (wire_text m) events f a b → t.0 < length a.list.items
-      → ((d : SwitchStart) → f (get_or a.list.items t.0 d).barrier ≡ barrier_in (messages_to k t sent ++ m ∷ [])) → HoldMessages k (sent ++ one ∷ []) b.list.items
-  hold_more hold puts within barrier =
-      let count = puts.count in
+  pub message_put : HoldTexts (take (i + 1) messages) count b
+  message_put =
+      let same_count = puts.count in
+      let had = so_far.count_is in
       record {
-        text = λ s d lt. elim (cases_eq s t.0) [
+        count_is = puts.count ∙ so_far.count_is;
+        text = λ s d less. elim (cases_eq s m.switch.0) [
           | inl same ↦
-              let here : eqb t.0 s ≡ true = eq-eqb t.0 s (sym same) in
-              ap (λ (n : ℕ). (get_or b.list.items n d).text.items) same ∙ puts.text_is d
-              ∙ ap (λ (n : ℕ). (get_or a.list.items n d).text.items ++ wire_text m) (sym same)
-              ∙ ap (λ l. l ++ wire_text m) (hold.text s d (omega arith)) ∙ sym (flat_map-one (messages_to k (switch_numbered s) sent) m) ∙ ap (flat_map wire_text) (sym (more_here (switch_numbered s) here))
+              let before = concat (texts_for (switch_numbered s) (take i messages)) in
+              let one : concat (texts_for (switch_numbered s) (m ∷ [])) ≡ m.text = ap said_to (eq-eqb m.switch.0 s (sym same)) ∙ append-nil m.text in
+              ap (λ (n : ℕ). (get_or b n d).text.items) same ∙ puts.text_is d ∙ ap (λ (n : ℕ). (get_or a n d).text.items ++ m.text) (sym same)
+              ∙ ap (λ (l : List ℕ). l ++ m.text) (so_far.text s d (omega arith)) ∙ ap (λ (l : List ℕ). before ++ l) (sym one) ∙ sym (one_more (switch_numbered s))
           | inr differs ↦
-              let away : eqb t.0 s ≡ false = ne_eqb t.0 s (λ e. differs (sym e)) in
-              ap (λ (x : SwitchStart). x.text.items) (puts.others s d differs) ∙ hold.text s d (omega arith) ∙ ap (flat_map wire_text) (sym (more_away (switch_numbered s) away))
+              let before = concat (texts_for (switch_numbered s) (take i messages)) in
+              let none : concat (texts_for (switch_numbered s) (m ∷ [])) ≡ [] = ap said_to (ne_eqb m.switch.0 s (λ e. differs (sym e))) in
+              ap (λ (x : SwitchStart). x.text.items) (puts.others s d differs) ∙ so_far.text s d (omega arith)
+              ∙ sym (append-nil before) ∙ ap (λ (l : List ℕ). before ++ l) (sym none) ∙ sym (one_more (switch_numbered s))
         ];
-        barrier = λ s d lt. elim (cases_eq s t.0) [
-          | inl same ↦
-              let here : eqb t.0 t.0 ≡ true = eq-eqb t.0 t.0 refl in
-              let Barrier : ℕ → Type 0 = λ n. (get_or b.list.items n d).barrier ≡ barrier_in (messages_to k (switch_numbered n) (sent ++ one ∷ [])) in
-              subst Barrier (sym same) (puts.barrier_is d ∙ barrier d ∙ ap barrier_in (sym (more_here t here)))
-          | inr differs ↦
-              let away : eqb t.0 s ≡ false = ne_eqb t.0 s (λ e. differs (sym e)) in
-              ap (λ (x : SwitchStart). x.barrier) (puts.others s d differs) ∙ hold.barrier s d (omega arith) ∙ ap barrier_in (sym (more_away (switch_numbered s) away))
+        unasked = λ s d less. elim (cases_eq s m.switch.0) [
+          | inl same ↦ ap (λ (n : ℕ). (get_or b n d).barrier) same ∙ puts.barrier_is d ∙ ap (λ (n : ℕ). (get_or a n d).barrier) (sym same) ∙ so_far.unasked s d (omega arith)
+          | inr differs ↦ ap (λ (x : SwitchStart). x.barrier) (puts.others s d differs) ∙ so_far.unasked s d (omega arith)
         ];
       }
 
--- ---- the changes
+-- ---- barrier requests
 
--- the first changes are put in
-pub record ChangesPut (changes : List Change) (i : ℕ) (a b : SwitchStarts) : Type 0 where
-  pub count : length b.list.items ≡ length a.list.items
-  pub xid : b.xid ≡ a.xid + i
-  pub messages : (k : ℕ) → HoldMessages k (sent_from a.xid (map (change_request k) (take i changes))) b.list.items
-  pub events : HoldEvents (take i changes) b.list.items
-  pub unasked : AreUnasked 0 b.list.items
+pub length-asked : (x changed n : ℕ) (turns : List SwitchStart) → length (asked_turns x changed n turns) ≡ length turns
+length-asked x changed n [] = refl
+length-asked x changed n (t ∷ turns) = ap suc (length-asked (next_if (has changed (switch_numbered n)) x) changed (suc n) turns)
 
-module _ (changes : List Change) (i : ℕ) (c : Change) (a b e : SwitchStarts) (so_far : ChangesPut changes i a b) (lt : i < length changes) (is : get_or changes i c ≡ c) (within : (switch_of c).0 < length b.list.items)
-    (puts : PutsMessage (switch_of c).0 (wire_text (message_of c b.xid)) (event.Change i ∷ []) (λ x. x) b e) where
-  more : take (i + 1) changes ≡ take i changes ++ c ∷ []
-  more = take_more changes i c lt ∙ ap (λ x. take i changes ++ x ∷ []) is
+asked_text : (x changed n : ℕ) (turns : List SwitchStart) (i : ℕ) (d : SwitchStart) → (get_or (asked_turns x changed n turns) i d).text.items ≡ (get_or turns i d).text.items
+asked_text x changed n [] i d = refl
+asked_text x changed n (t ∷ turns) zero d = elim (has changed (switch_numbered n)) as (λ b. (ask_turn b x t).text.items ≡ t.text.items) [ true ↦ refl | false ↦ refl ]
+asked_text x changed n (t ∷ turns) (suc i) d = asked_text (next_if (has changed (switch_numbered n)) x) changed (suc n) turns i d
 
-  taken : length (take i changes) ≡ i
-  taken = length-take-le i changes (omega arith)
-
-  more_sent : (k : ℕ) → sent_from a.xid (map (change_request k) (take (i + 1) changes)) ≡ sent_from a.xid (map (change_request k) (take i changes)) ++ sent_for (change_request k c) b.xid ∷ []
-  more_sent k =
-      let rs : List Request = map (change_request k) (take i changes) in
-      let count = length-map (take i changes) (change_request k) in
-      let number : a.xid + length rs ≡ b.xid = omega (arith, count, taken, so_far.xid) in
-      ap (λ l. sent_from a.xid (map (change_request k) l)) more ∙ ap (sent_from a.xid) (map-append (change_request k) (take i changes) (c ∷ [])) ∙ sent_from-append a.xid rs (change_request k c ∷ [])
-      ∙ ap (λ (n : ℕ). sent_from a.xid rs ++ sent_for (change_request k c) n ∷ []) number
-
-  pub change_put : ChangesPut changes (i + 1) a e
-  change_put =
-      let count = puts.count in
-      record {
-        count = puts.count ∙ so_far.count;
-        xid = omega (arith, puts.xid, so_far.xid);
-        messages = λ k.
-            let sent = sent_from a.xid (map (change_request k) (take i changes)) in
-            let hold = so_far.messages k in
-            subst (λ l. HoldMessages k l e.list.items) (sym (more_sent k))
-            (hold_more k sent (switch_of c) (message_of c b.xid) (event.Change i ∷ []) (λ x. x) b e hold puts within
-            (λ d. hold.barrier (switch_of c).0 d within ∙ sym (barrier_in-change (messages_to k (switch_of c) sent) c b.xid)));
-        events = record {
-          events = λ s d less. elim (cases_eq s (switch_of c).0) [
-            | inl same ↦
-                let here : eqb (switch_of c).0 s ≡ true = eq-eqb (switch_of c).0 s (sym same) in
-                let number : 0 + length (take i changes) ≡ i = omega (arith, taken) in
-                ap (λ (n : ℕ). (get_or e.list.items n d).events.items) same ∙ puts.events_are d ∙ ap (λ (n : ℕ). (get_or b.list.items n d).events.items ++ event.Change i ∷ []) (sym same)
-                ∙ ap (λ l. l ++ event.Change i ∷ []) (so_far.events.events s d (omega arith))
-                ∙ ap (λ l. change_events (switch_numbered s) 0 (take i changes) ++ l) (sym (here_event (switch_numbered s) i c here))
-                ∙ ap (λ (n : ℕ). change_events (switch_numbered s) 0 (take i changes) ++ change_events (switch_numbered s) n (c ∷ [])) (sym number)
-                ∙ sym (change_events-more (switch_numbered s) 0 (take i changes) c) ∙ ap (change_events (switch_numbered s) 0) (sym more)
-            | inr differs ↦
-                let away : eqb (switch_of c).0 s ≡ false = ne_eqb (switch_of c).0 s (λ x. differs (sym x)) in
-                let so = change_events (switch_numbered s) 0 (take i changes) in
-                ap (λ (x : SwitchStart). x.events.items) (puts.others s d differs) ∙ so_far.events.events s d (omega arith) ∙ sym (append-nil so)
-                ∙ ap (λ l. so ++ l) (sym (no_event (switch_numbered s) (0 + length (take i changes)) c away))
-                ∙ sym (change_events-more (switch_numbered s) 0 (take i changes) c) ∙ ap (change_events (switch_numbered s) 0) (sym more)
-          ];
-        };
-        unasked = record {
-          barrier = λ s d le less. elim (cases_eq s (switch_of c).0) [
-            | inl same ↦ ap (λ (n : ℕ). (get_or e.list.items n d).barrier) same ∙ puts.barrier_is d ∙ so_far.unasked.barrier (switch_of c).0 d (omega arith) within
-            | inr differs ↦ ap (λ (x : SwitchStart). x.barrier) (puts.others s d differs) ∙ so_far.unasked.barrier s d (omega arith) (omega arith)
-          ];
-        };
-      }
-
--- ---- the barriers
-
-abbrev passed : List Change → ℕ → List SwitchId
-passed changes n = filter (is_changed changes) (map switch_numbered (range_with_len 0 n))
-
-passed_more : (changes : List Change) (n : ℕ) → passed changes (n + 1) ≡ passed changes n ++ cond (is_changed changes (switch_numbered n)) (switch_numbered n ∷ []) []
-passed_more changes n = filter_of_map_range_with_len_more (is_changed changes) switch_numbered 0 n n (omega arith)
-
--- a switch without an event gets no barrier request
-pub barrier_past : (n : ℕ) (a b : SwitchStarts) → PutsBarriers n a b → n < length b.list.items → ((d : SwitchStart) → (get_or b.list.items n d).events.items ≡ []) → (d : SwitchStart) → PutsBarriers (n + 1) a b
-barrier_past n a b so_far lt none d = record {
-  count = so_far.count;
-  few = omega (arith, so_far.few);
-  unasked = record { barrier = λ s t le less. so_far.unasked.barrier s t (omega arith) less };
-  messages = λ k sent changes hold events.
-      let same = still changes (so_far.events changes events) in
-      subst (λ l. HoldMessages k (sent ++ sent_from a.xid (map (barrier_request k) l)) b.list.items) (sym same) (so_far.messages k sent changes hold events);
-  events = so_far.events;
-  xid = λ changes events. let same = still changes (so_far.events changes events) in so_far.xid changes events ∙ ap (λ (l : List SwitchId). a.xid + length l) (sym same);
-}
-  where
-    still : (changes : List Change) → HoldEvents changes b.list.items → passed changes (n + 1) ≡ passed changes n
-    still changes hold =
-        elim (cases_Bool (is_changed changes (switch_numbered n))) [
-          | inl on ↦ absurd (changed_some (switch_numbered n) 0 changes on (sym (hold.events n d lt) ∙ none d))
-          | inr off ↦ passed_more changes n ∙ ap (λ x. passed changes n ++ cond x (switch_numbered n ∷ []) []) off ∙ append-nil (passed changes n)
-        ]
-
--- one with an event gets one
-module _ (n : ℕ) (a b e : SwitchStarts) (so_far : PutsBarriers n a b) (lt : n < length b.list.items) (d : SwitchStart) (some : (get_or b.list.items n d).events.items ≡ [] → ⊥)
-    (puts : PutsMessage n (wire_text (BarrierRequest b.xid)) [] (λ x. Some b.xid) b e) where
-  one_passed : (changes : List Change) → HoldEvents changes b.list.items → passed changes (n + 1) ≡ passed changes n ++ switch_numbered n ∷ []
-  one_passed changes hold =
-      elim (cases_Bool (is_changed changes (switch_numbered n))) [
-        | inl on ↦ passed_more changes n ∙ ap (λ x. passed changes n ++ cond x (switch_numbered n ∷ []) []) on
-        | inr off ↦ absurd (some (hold.events n d lt ∙ unchanged_none (switch_numbered n) 0 changes off))
+module _ (k : ℕ) (round : List Change) (changed : ℕ) (are : HasChanged changed round) where
+  asked_barrier : (y n : ℕ) (turns : List SwitchStart) (i : ℕ) (d : SwitchStart) → i < length turns → ((j : ℕ) → j < length turns → (get_or turns j d).barrier ≡ None)
+      → y + length (changed_from k round n (length turns)) ≤ 4294967295
+      → (get_or (asked_turns y changed n turns) i d).barrier ≡ barrier_in (barriers_to k round (switch_numbered (n + i)) y (changed_from k round n (length turns)))
+  asked_barrier y n [] i d less none few = absurd (omega arith)
+  asked_barrier y n (t ∷ turns) zero d less none few =
+      let m = length turns in
+      let s = switch_numbered (n + 0) in
+      let place : n ≡ n + 0 = omega arith in
+      elim (cases_Bool (is_changed round (switch_numbered n))) [
+        | inl on ↦
+            ap (λ b. (ask_turn b y t).barrier) (are (switch_numbered n) ∙ on)
+            ∙ ap barrier_in (sym (ap (barriers_to k round s y) (changed_first k round n m on) ∙ barrier_here k round s (switch_numbered n) (changed_from k round (n + 1) m) y (eq-eqb n (n + 0) place)))
+        | inr off ↦
+            ap (λ b. (ask_turn b y t).barrier) (are (switch_numbered n) ∙ off) ∙ none 0 (omega arith)
+            ∙ ap barrier_in (sym (ap (barriers_to k round s y) (changed_later k round n m off) ∙ no_barrier k s (is_changed round) (n + 1) m y (inl (omega arith))))
       ]
-
-  one_sent : (k : ℕ) (changes : List Change) → HoldEvents changes b.list.items → b.xid ≡ a.xid + length (passed changes n)
-      → barriers_below k changes (n + 1) a.xid ≡ barriers_below k changes n a.xid ++ sent_for (barrier_request k (switch_numbered n)) b.xid ∷ []
-  one_sent k changes hold xid =
-      let rs : List Request = map (barrier_request k) (passed changes n) in
-      let count = length-map (passed changes n) (barrier_request k) in
-      let number : a.xid + length rs ≡ b.xid = omega (arith, count, xid) in
-      ap (λ l. sent_from a.xid (map (barrier_request k) l)) (one_passed changes hold) ∙ ap (sent_from a.xid) (map-append (barrier_request k) (passed changes n) (switch_numbered n ∷ []))
-      ∙ sent_from-append a.xid rs (barrier_request k (switch_numbered n) ∷ []) ∙ ap (λ (x : ℕ). sent_from a.xid rs ++ sent_for (barrier_request k (switch_numbered n)) x ∷ []) number
-
-  still_events : (changes : List Change) → HoldEvents changes b.list.items → HoldEvents changes e.list.items
-  still_events changes hold =
-      let count = puts.count in
-      record {
-        events = λ s t less. elim (cases_eq s n) [
-          | inl same ↦ ap (λ (x : ℕ). (get_or e.list.items x t).events.items) same ∙ puts.events_are t ∙ append-nil (get_or b.list.items n t).events.items
-              ∙ ap (λ (x : ℕ). (get_or b.list.items x t).events.items) (sym same) ∙ hold.events s t (omega arith)
-          | inr differs ↦ ap (λ (x : SwitchStart). x.events.items) (puts.others s t differs) ∙ hold.events s t (omega arith)
-        ];
-      }
-
-  pub barrier_put : PutsBarriers (n + 1) a e
-  barrier_put =
-      let count = puts.count in
-      record {
-        count = puts.count ∙ so_far.count;
-        few = omega (arith, so_far.few, puts.xid);
-        unasked = record {
-          barrier = λ s t le less. ap (λ (x : SwitchStart). x.barrier) (puts.others s t (λ x. omega arith)) ∙ so_far.unasked.barrier s t (omega arith) (omega arith);
-        };
-        messages = λ k sent changes hold events.
-            let held = so_far.messages k sent changes hold events in
-            let events' = so_far.events changes events in
-            let below = barriers_below k changes n a.xid in
-            let x : Sent = sent_for (barrier_request k (switch_numbered n)) b.xid in
-            let all : sent ++ barriers_below k changes (n + 1) a.xid ≡ (sent ++ below) ++ x ∷ [] = ap (λ l. sent ++ l) (one_sent k changes events' (so_far.xid changes events)) ∙ sym (append_assoc sent below (x ∷ [])) in
-            subst (λ l. HoldMessages k l e.list.items) (sym all)
-            (hold_more k (sent ++ below) (switch_numbered n) (BarrierRequest b.xid) [] (λ y. Some b.xid) b e held puts lt
-            (λ t. sym (barrier_in-barrier (messages_to k (switch_numbered n) (sent ++ below)) b.xid (sym (held.barrier n t lt) ∙ so_far.unasked.barrier n t (omega arith) lt))));
-        events = λ changes events. still_events changes (so_far.events changes events);
-        xid = λ changes events.
-            let whole = ap length (one_passed changes (so_far.events changes events)) in
-            let count = length-append (passed changes n) (switch_numbered n ∷ []) in
-            omega (arith, puts.xid, so_far.xid changes events, whole, count);
-      }
+  asked_barrier y n (t ∷ turns) (suc i) d less none few =
+      let m = length turns in
+      let s = switch_numbered (n + suc i) in
+      let place : suc n + i ≡ n + suc i = omega arith in
+      let step : suc n ≡ n + 1 = omega arith in
+      let same : length (changed_from k round (suc n) m) ≡ length (changed_from k round (n + 1) m) = ap (λ (j : ℕ). length (changed_from k round j m)) step in
+      let Rest : ℕ → Type 0 = λ z. (get_or (asked_turns z changed (suc n) turns) i d).barrier ≡ barrier_in (barriers_to k round s z (changed_from k round (n + 1) m)) in
+      let later : (z : ℕ) → z + length (changed_from k round (n + 1) m) ≤ 4294967295 → Rest z = λ z fits. (
+      asked_barrier z (suc n) turns i d (omega arith) (λ j lt. none (suc j) (omega arith)) (omega arith)
+      ∙ ap (λ (j : ℕ). barrier_in (barriers_to k round (switch_numbered j) z (changed_from k round (suc n) m))) place
+      ∙ ap (λ (j : ℕ). barrier_in (barriers_to k round s z (changed_from k round j m))) step) in
+      elim (cases_Bool (is_changed round (switch_numbered n))) [
+        | inl on ↦
+            let count : length (changed_from k round n (suc m)) ≡ suc (length (changed_from k round (n + 1) m)) = ap length (changed_first k round n m on) in
+            ap (λ b. (get_or (asked_turns (next_if b y) changed (suc n) turns) i d).barrier) (are (switch_numbered n) ∙ on)
+            ∙ ap (λ z. (get_or (asked_turns z changed (suc n) turns) i d).barrier) (next_is y (omega arith)) ∙ later (suc y) (omega arith)
+            ∙ ap barrier_in (sym (ap (barriers_to k round s y) (changed_first k round n m on) ∙ barrier_past k round s (switch_numbered n) (changed_from k round (n + 1) m) y (ne_eqb n (n + suc i) (λ e. omega arith))))
+        | inr off ↦
+            let count : length (changed_from k round n (suc m)) ≡ length (changed_from k round (n + 1) m) = ap length (changed_later k round n m off) in
+            ap (λ b. (get_or (asked_turns (next_if b y) changed (suc n) turns) i d).barrier) (are (switch_numbered n) ∙ off) ∙ later y (omega arith)
+            ∙ ap barrier_in (sym (ap (barriers_to k round s y) (changed_later k round n m off)))
+      ]
 
 -- ---- the whole round
 
-pub round_sent : (net : Network) (k xid : ℕ) (changes : List Change)
-    → sent_from xid (round_requests net k changes) ≡ sent_from xid (map (change_request k) changes) ++ barriers_below k changes (switch_count net) (xid + length changes)
-round_sent net k xid changes =
-    sent_from-append xid (map (change_request k) changes) (map (barrier_request k) (switches_changed net changes))
-    ∙ ap (λ (n : ℕ). sent_from xid (map (change_request k) changes) ++ barriers_below k changes (switch_count net) (xid + n)) (length-map changes (change_request k))
+pub turns_hold : (net : Network) (k xid : ℕ) (round : List Change) (changed : ℕ) (put : List SwitchStart) → xid + length (round_requests net k round) ≤ 4294967295 → HasChanged changed round
+    → HoldTexts (batch_of net xid round) (switch_count net) put → HoldMessages k (sent_from xid (round_requests net k round)) (asked_turns (xid + length round) changed 0 put)
+turns_hold net k xid round changed put few are hold =
+    let y : ℕ = xid + length round in
+    let count = length-asked y changed 0 put in
+    let asked : length (changed_from k round 0 (length put)) ≡ length (switches_changed net round) = ap (λ (m : ℕ). length (changed_from k round 0 m)) hold.count_is in
+    let parts = round_parts net k round in
+    record {
+      text = λ s d lt.
+          asked_text y changed 0 put s d ∙ hold.text s d (omega arith) ∙ ap concat (batch_texts net k xid round few (switch_numbered s))
+          ∙ concat_texts (messages_to k (switch_numbered s) (sent_from xid (round_requests net k round)));
+      barrier = λ s d lt.
+          let place : 0 + s ≡ s = omega arith in
+          let less : s < length put = omega arith in
+          asked_barrier k round changed are y 0 put s d less (λ j le. hold.unasked j d le) (omega arith)
+          ∙ ap (λ (j : ℕ). barrier_in (barriers_to k round (switch_numbered j) y (changed_from k round 0 (length put)))) place
+          ∙ ap (λ (m : ℕ). barrier_in (barriers_to k round (switch_numbered s) y (changed_from k round 0 m))) hold.count_is
+          ∙ sym (barrier_is net k xid round few (switch_numbered s));
+    }
 
--- ---- one turn more
+-- ---- the changes of a switch are logged one after the other
 
-some_turn : (turns : List SwitchStart) (n : ℕ) → n < length turns → SwitchStart
-some_turn [] n lt = absurd (omega arith)
-some_turn (t ∷ turns) n lt = t
-
-pub turn_taken : (n : ℕ) (a b e : SwitchStarts) → PutsBarriers n a b → n < length b.list.items → TakesTurn n b e → PutsBarriers (n + 1) a e
-turn_taken n a b e so_far lt (inl h) = subst (PutsBarriers (n + 1) a) (sym h.1) (barrier_past n a b so_far lt h.0 (some_turn b.list.items n lt))
-turn_taken n a b e so_far lt (inr h) = let d = some_turn b.list.items n lt in barrier_put n a b e so_far lt d (h.0 d) h.1
-
-pub turns_hold : (net : Network) (k xid : ℕ) (changes : List Change) (first put done : SwitchStarts) → first.xid ≡ xid → HoldMessages k (sent_from first.xid (map (change_request k) changes)) put.list.items
-    → HoldEvents changes put.list.items → put.xid ≡ first.xid + length changes → length put.list.items ≡ switch_count net → PutsBarriers (length put.list.items) put done
-    → HoldMessages k (sent_from xid (round_requests net k changes)) done.list.items
-turns_hold net k xid changes first put done from hold events number count puts =
-    let sent = sent_from first.xid (map (change_request k) changes) in
-    let whole = puts.messages k sent changes hold events in
-    let here : put.xid ≡ xid + length changes = omega (arith, number, from) in
-    let all : sent ++ barriers_below k changes (length put.list.items) put.xid ≡ sent_from xid (round_requests net k changes) =
-    ap (λ (x : ℕ). sent_from x (map (change_request k) changes) ++ barriers_below k changes (length put.list.items) put.xid) from
-    ∙ ap (λ (n : ℕ). sent_from xid (map (change_request k) changes) ++ barriers_below k changes n put.xid) count
-    ∙ ap (λ (n : ℕ). sent_from xid (map (change_request k) changes) ++ barriers_below k changes (switch_count net) n) here
-    ∙ sym (round_sent net k xid changes) in
-    subst (λ l. HoldMessages k l done.list.items) all whole
+pub log_step : (s : SwitchId) (round : List Change) (n : ℕ) (c : Change) (before after all : List Event) → n < length round → c ≡ get_or round n c
+    → after ≡ cond (eqb (switch_of c).0 s.0) (before ++ event.Change n ∷ []) before → before ++ change_events s n (drop n round) ≡ all → after ++ change_events s (n + 1) (drop (n + 1) round) ≡ all
+log_step s round n c before after all lt is made so_far =
+    let rest = change_events s (suc n) (drop (suc n) round) in
+    let whole : drop n round ≡ c ∷ drop (suc n) round = drop-cons round n c lt ∙ ap (λ (x : Change). x ∷ drop (suc n) round) (sym is) in
+    ap (λ (k : ℕ). after ++ change_events s k (drop k round)) (add-one n) ∙ ap (λ (l : List Event). l ++ rest) made ∙ by rest (eqb (switch_of c).0 s.0)
+    ∙ ap (λ (l : List Change). before ++ change_events s n l) (sym whole) ∙ so_far
+  where
+    by : (rest : List Event) (t : Bool) → cond t (before ++ event.Change n ∷ []) before ++ rest ≡ before ++ cond t (event.Change n ∷ rest) rest
+    by rest true = append_assoc before (event.Change n ∷ []) rest
+    by rest false = refl

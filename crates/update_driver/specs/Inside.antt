@@ -1,98 +1,73 @@
 -- What a driver keeps beside what contracts see.
-use Rattle.std.specs.Prelude.{◌≡◌, ◌≢◌, ◌⊎◌, ◌<◌, ◌≤◌, ◌+◌, ℕ, zero, suc, List, [], ◌∷◌, ◌++◌, length, map, filter, flat_map, slice_index_or, if◌then◌else◌, Option, Some, None, IsSome}
-use Rattle.std.specs.List.{range_with_len}
+use Rattle.std.specs.Prelude.{◌≡◌, ◌≢◌, ◌<◌, ◌≤◌, Bool, ℕ, zero, suc, List, [], ◌∷◌, ◌++◌, length, map, flat_map, slice_index_or, if◌then◌else◌, Option, Some, None}
+use Rattle.std.specs.List.{concat}
 use Rattle.std.specs.Option.{option_map_or}
-use Rattle.net_base.specs.declared.ids.SwitchId.{SwitchId}
-use Rattle.topology.specs.Networks.{Network, switch_count}
+use Rattle.net_base.specs.Switches.{has}
+use Rattle.topology.specs.Networks.{Network}
 use Rattle.update_model.specs.Changes.{round_after}
-use Rattle.update_model.specs.Worlds.{running_round}
 use Rattle.update_model.specs.declared.Change.{Change}
 use Rattle.update_model.specs.declared.Event.{Event}
 use Rattle.update_model.specs.declared.Event.TheVariants as event
 use Rattle.update_model.specs.declared.Phase.{Phase}
 use Rattle.update_model.specs.declared.Phase.TheVariants.{Settled, Running}
 use Rattle.openflow10.specs.Messages.{wire_text}
-use Rattle.openflow10.specs.declared.Message.TheVariants.{BarrierRequest}
-use Rattle.round_messages.specs.Requests.{Sent, first_xid, is_changed, switch_numbered, barrier_request, sent_from}
+use Rattle.round_messages.specs.Requests.{Sent, first_xid, switch_numbered}
 use Rattle.round_messages.specs.ToSwitch.{messages_to}
 use Rattle.switch_session.specs.Channels.{ChannelState, after_request, after_bytes}
 use Rattle.switch_session.specs.Seen.{ChannelView}
-use Rattle.update_driver.specs.Drivers.{DriverState, channel_at, with_channel, settled_if_answered, change_events, is_answered, barrier_in, start_fault_in, started_phase}
+use Rattle.turned_rounds.specs.Batches.{next_if}
+use Rattle.turned_rounds.specs.declared.outgoing.Outgoing.{Outgoing}
+use Rattle.two_way_driver.specs.Sending.{texts_for}
+use Rattle.update_driver.specs.Drivers.{DriverState, channel_at, with_channel, settled_if_answered, is_answered, barrier_in, start_fault_in, started_phase}
 use Rattle.update_driver.specs.Calls.{DriverView, AreDrivable, IsMadeByCalls}
 use Rattle.update_driver.specs.Laws.{begun_count}
 use Rattle.update_driver.specs.declared.StartFault.{StartFault}
 use Rattle.update_driver.specs.declared.turns.SwitchStart.{SwitchStart}
-use Rattle.update_driver.specs.declared.turns.SwitchStarts.{SwitchStarts}
 
 -- the channels that contracts see
 abbrev pub states_of : List ChannelView → List ChannelState
 states_of views = map (λ v. v.state) views
 
--- no messages were put into the turns
+-- no message was put into the turns
 pub record IsEmptyTurn (t : SwitchStart) : Type 0 where
   pub text : t.text.items ≡ []
-  pub events : t.events.items ≡ []
   pub barrier : t.barrier ≡ None
 
 abbrev pub AreEmpty : List SwitchStart → Type 0
 AreEmpty turns = (s : ℕ) (d : SwitchStart) → s < length turns → IsEmptyTurn (slice_index_or turns s d)
+
+-- a message was put behind those to its switch
+pub record PutsText (m : Outgoing) (old new : List SwitchStart) : Type 0 where
+  pub count : length new ≡ length old
+  pub others : (i : ℕ) (d : SwitchStart) → i ≢ m.switch.0 → slice_index_or new i d ≡ slice_index_or old i d
+  pub text_is : (d : SwitchStart) → (slice_index_or new m.switch.0 d).text.items ≡ (slice_index_or old m.switch.0 d).text.items ++ m.text
+  pub barrier_is : (d : SwitchStart) → (slice_index_or new m.switch.0 d).barrier ≡ (slice_index_or old m.switch.0 d).barrier
+
+-- so many turns hold these messages, each that to its switch, and no barrier request
+pub record HoldTexts (messages : List Outgoing) (count : ℕ) (turns : List SwitchStart) : Type 0 where
+  pub count_is : length turns ≡ count
+  pub text : (s : ℕ) (d : SwitchStart) → s < length turns → (slice_index_or turns s d).text.items ≡ concat (texts_for (switch_numbered s) messages)
+  pub unasked : (s : ℕ) (d : SwitchStart) → s < length turns → (slice_index_or turns s d).barrier ≡ None
+
+-- a turn with a barrier request, if its switch has a change
+abbrev pub ask_turn : Bool → ℕ → SwitchStart → SwitchStart
+ask_turn changed x t = if changed then record t { barrier = Some x } else t
+
+-- the turns of the switches from number n on, each with a barrier request if it has a change; the first of these has xid x
+abbrev pub asked_turns : ℕ → ℕ → ℕ → List SwitchStart → List SwitchStart
+asked_turns x changed n [] = []
+asked_turns x changed n (t ∷ turns) =
+    ask_turn (has changed (switch_numbered n)) x t ∷ asked_turns (next_if (has changed (switch_numbered n)) x) changed (suc n) turns
 
 -- the turns hold what each switch gets of these messages of round k
 pub record HoldMessages (k : ℕ) (sent : List Sent) (turns : List SwitchStart) : Type 0 where
   pub text : (s : ℕ) (d : SwitchStart) → s < length turns → (slice_index_or turns s d).text.items ≡ flat_map wire_text (messages_to k (switch_numbered s) sent)
   pub barrier : (s : ℕ) (d : SwitchStart) → s < length turns → (slice_index_or turns s d).barrier ≡ barrier_in (messages_to k (switch_numbered s) sent)
 
--- the turns hold the events of each switch's changes
-pub record HoldEvents (changes : List Change) (turns : List SwitchStart) : Type 0 where
-  pub events : (s : ℕ) (d : SwitchStart) → s < length turns → (slice_index_or turns s d).events.items ≡ change_events (switch_numbered s) 0 changes
-
--- no turn from number n on has a barrier request
-pub record AreUnasked (n : ℕ) (turns : List SwitchStart) : Type 0 where
-  pub barrier : (s : ℕ) (d : SwitchStart) → n ≤ s → s < length turns → (slice_index_or turns s d).barrier ≡ None
-
--- a message was put into the turn of a switch
-pub record PutsMessage (s : ℕ) (text : List ℕ) (events : List Event) (barrier : Option ℕ → Option ℕ) (old new : SwitchStarts) : Type 0 where
-  pub count : length new.list.items ≡ length old.list.items
-  pub xid : new.xid ≡ old.xid + 1
-  pub others : (i : ℕ) (d : SwitchStart) → i ≢ s → slice_index_or new.list.items i d ≡ slice_index_or old.list.items i d
-  pub text_is : (d : SwitchStart) → (slice_index_or new.list.items s d).text.items ≡ (slice_index_or old.list.items s d).text.items ++ text
-  pub events_are : (d : SwitchStart) → (slice_index_or new.list.items s d).events.items ≡ (slice_index_or old.list.items s d).events.items ++ events
-  pub barrier_is : (d : SwitchStart) → (slice_index_or new.list.items s d).barrier ≡ barrier (slice_index_or old.list.items s d).barrier
-
--- the turn of a switch has no event, or it has one
-abbrev pub IsQuietAt : ℕ → SwitchStarts → Type 0
-IsQuietAt s turns = (d : SwitchStart) → (slice_index_or turns.list.items s d).events.items ≡ []
-
-abbrev pub IsBusyAt : ℕ → SwitchStarts → Type 0
-IsBusyAt s turns = (d : SwitchStart) → ¬ ((slice_index_or turns.list.items s d).events.items ≡ [])
-
--- a barrier request was put into the turn of a switch, if it has an event
-abbrev pub TakesTurn : ℕ → SwitchStarts → SwitchStarts → Type 0
-TakesTurn s old new =
-    (IsQuietAt s old × (new ≡ old)) ⊎ (IsBusyAt s old × PutsMessage s (wire_text (BarrierRequest old.xid)) [] (λ _. Some old.xid) old new)
-
--- the barrier requests of round k to the switches below n with a change among these
-abbrev pub barriers_below : ℕ → List Change → ℕ → ℕ → List Sent
-barriers_below k changes n xid = sent_from xid (map (barrier_request k) (filter (is_changed changes) (map switch_numbered (range_with_len 0 n))))
-
--- barrier requests were put into the turns below n that have an event
-pub record PutsBarriers (n : ℕ) (old new : SwitchStarts) : Type 0 where
-  pub count : length new.list.items ≡ length old.list.items
-  pub few : new.xid ≤ old.xid + n
-  pub unasked : AreUnasked n new.list.items
-  pub messages : (k : ℕ) (sent : List Sent) (changes : List Change) → HoldMessages k sent old.list.items → HoldEvents changes old.list.items
-      → HoldMessages k (sent ++ barriers_below k changes n old.xid) new.list.items
-  pub events : (changes : List Change) → HoldEvents changes old.list.items → HoldEvents changes new.list.items
-  pub xid : (changes : List Change) → HoldEvents changes old.list.items → new.xid ≡ old.xid + length (filter (is_changed changes) (map switch_numbered (range_with_len 0 n)))
-
--- what every driver keeps: rounds in range, a state that came about by calls, the events that each outstanding barrier stands for,
--- and the xid of the next message
-pub record IsDriver (v : DriverView) (turns : List SwitchStart) (xid : ℕ) : Type 0 where
+-- what every driver keeps: rounds in range, a state that came about by calls, and the xid of the next message
+pub record IsDriver (v : DriverView) (xid : ℕ) : Type 0 where
   pub drivable : AreDrivable v.net v.rounds
   pub reached : IsMadeByCalls v
-  pub count : length turns ≡ switch_count v.net
-  pub events : (s : ℕ) (d : SwitchStart) → s < switch_count v.net → IsSome (channel_at v.state (switch_numbered s)).outstanding
-      → (slice_index_or turns s d).events.items ≡ change_events (switch_numbered s) 0 (running_round v.state.phase v.rounds)
   pub next : xid ≡ first_xid v.net v.rounds (begun_count v.state.phase)
 
 -- ---- steps of a start

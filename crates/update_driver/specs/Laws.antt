@@ -4,7 +4,7 @@ use Rattle.std.specs.List.{AllByRecursion}
 use Rattle.net_base.specs.declared.ids.SwitchId.{SwitchId}
 use Rattle.topology.specs.Networks.{Network}
 use Rattle.flow_rules.specs.declared.rules.Rule.{Rule}
-use Rattle.update_model.specs.Mixtures.{Rollout, AreGoodRounds}
+use Rattle.update_model.specs.Mixtures.{AreGoodRounds}
 use Rattle.update_model.specs.Runs.{IsRun}
 use Rattle.update_model.specs.declared.Change.{Change}
 use Rattle.update_model.specs.declared.Event.{Event}
@@ -16,11 +16,8 @@ use Rattle.openflow10.specs.declared.Message.{Message}
 use Rattle.round_messages.specs.Requests.{Sent, sent_in}
 use Rattle.switch_session.specs.Channels.{hello, echo_reply}
 use Rattle.switch_session.specs.Laws.{AreRequests, ReadsAll}
+use Rattle.two_way_driver.specs.Laws.{rollout_of}
 use Rattle.update_driver.specs.Drivers.{DriverState, channel_at, none_outstanding}
-
--- rounds over a network, from these tables on
-abbrev pub update_from : Network → List (List Rule) → List (List Change) → Rollout
-update_from net old rounds = record { net = net; old = old; rounds = rounds }
 
 -- an event of the update itself, and not of a packet
 abbrev pub IsOfUpdate : Event → Type 0
@@ -33,7 +30,7 @@ IsOfUpdate (event.Lose i) = ⊥
 
 -- the log is a run, without packets, from all tables from which every round is good
 pub record LogIsRun (net : Network) (rounds : List (List Change)) (log : List Event) : Type 0 where
-  pub run : (old : List (List Rule)) → AreGoodRounds (update_from net old rounds) → IsRun (update_from net old rounds) log
+  pub run : (old : List (List Rule)) → AreGoodRounds (rollout_of net old rounds) → IsRun (rollout_of net old rounds) log
   pub no_packets : AllByRecursion IsOfUpdate log
 
 -- how many rounds were begun

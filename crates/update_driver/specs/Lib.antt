@@ -3,3 +3,4 @@ pub mod Calls
 pub mod Laws
 pub mod Inside
 pub mod Answers
+pub mod Agreement

@@ -6,8 +6,8 @@ ghost use Rattle.update_driver.specs.Calls.{AreDrivable, IsMadeByCalls};
 ghost use Rattle.update_driver.specs.Laws.{LogIsRun};
 ghost use Rattle.update_driver.specs.Answers.{with_state, IsStartRefusal};
 
-use crate::starts::{begin, hear, make_channels, next_round};
-use crate::turns::{SwitchStart, SwitchStarts, turns_of};
+use crate::starts::{begin, hear, make_channels, next_round, running_round};
+use crate::turns::{SwitchStarts, turns_of};
 use crate::{Session, StartFault};
 use net_base::{Memory, SwitchId};
 use std::alloc::Global;
@@ -28,7 +28,6 @@ pub struct Driver<'a> {
     phase: Phase,
     log: Vec<Event>,
     channels: Vec<Channel>,
-    turns: Vec<SwitchStart>,
     xid: u32,
 }
 
@@ -40,7 +39,7 @@ impl<'a> Model for Driver<'a> {
 
     ghost view = { λ d. record { net = d.net.now; rounds = d.rounds.now; state = with_states d.phase d.log.items d.channels.items } };
 
-    ghost invariant = { λ d. IsDriver (record { net = d.net.now; rounds = d.rounds.now; state = with_states d.phase d.log.items d.channels.items }) d.turns.items d.xid };
+    ghost invariant = { λ d. IsDriver (record { net = d.net.now; rounds = d.rounds.now; state = with_states d.phase d.log.items d.channels.items }) d.xid };
 }
 
 impl<'a> Driver<'a> {
@@ -52,15 +51,13 @@ impl<'a> Driver<'a> {
             (λ d. d ≡ record { net = net.now; rounds = rounds.now; state = first_driver net.now }) }
     {
         let channels = make_channels(alloc, net.switches())?;
-        let SwitchStarts { list, xid } = SwitchStarts::make(alloc, net.switches(), 1)?;
         Ok(Driver {
             net,
             rounds,
             phase: Phase::Settled(0),
             log: Vec::new(alloc),
             channels,
-            turns: list,
-            xid,
+            xid: 1,
         })
     }
 
@@ -90,7 +87,6 @@ impl<'a> Driver<'a> {
             self.xid,
         )?;
         begin(&list, &mut self.phase, &mut self.log, &mut self.channels)?;
-        self.turns = list;
         self.xid = xid;
         Ok(())
     }
@@ -107,11 +103,11 @@ impl<'a> Driver<'a> {
             self.old) }
         ensures err { OnErr result (self.new ≡ self.old) }
     {
-        let number = s.0 as usize;
+        let round = running_round(self.rounds, self.phase);
         hear(
-            number,
+            s,
             bytes,
-            &self.turns[number].events,
+            round,
             &mut self.phase,
             &mut self.log,
             &mut self.channels,

@@ -2,6 +2,7 @@
 //! connections and no clock: bytes are handed in and out.
 #![tactic(auto)]
 
+pub mod agreement;
 mod drivers;
 pub mod laws;
 mod starts;

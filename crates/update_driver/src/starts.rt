@@ -1,14 +1,15 @@
 //! The steps of starting and settling a round.
-ghost use Rattle.std.specs.Prelude.{◌≡◌, ℕ, ◌<◌, ◌≤◌, ◌+◌, ◌^◌, ◌++◌, ◌&&◌, length, map, filter, find, not, replicate, false, slice_index_or, vec_len, vec_capacity, is_none, IfOk, IfErr, OnErr, OnOk};
+ghost use Rattle.std.specs.Prelude.{◌≡◌, ℕ, ◌<◌, ◌≤◌, ◌+◌, ◌^◌, ◌++◌, ◌∷◌, [], ◌&&◌, if◌then◌else◌, length, map, filter, find, not, replicate, false, slice_index_or, vec_len, vec_capacity, is_none, IfOk, IfErr, OnErr, OnOk};
 ghost use Rattle.std.specs.List.{AllByRecursion, list_all, range_with_len};
 ghost use Rattle.topology.specs.Networks.{switch_count};
 ghost use Rattle.update_model.specs.Ranges.{IsPlanChange};
 ghost use Rattle.update_model.specs.States.{phase_after_settle, settled_count};
+ghost use Rattle.update_model.specs.Worlds.{running_round};
 ghost use Rattle.update_driver.specs.Laws.{begun_count};
 ghost use Rattle.net_base.specs.Switches.{has, most_switches};
 ghost use Rattle.round_messages.specs.Requests.{switch_numbered};
 ghost use Rattle.switch_session.specs.Channels.{first_channel, is_open};
-ghost use Rattle.update_driver.specs.Drivers.{none_outstanding, settled_if_answered, started_phase};
+ghost use Rattle.update_driver.specs.Drivers.{none_outstanding, settled_if_answered, started_phase, change_events};
 ghost use Rattle.update_driver.specs.Inside.{states_of, with_states, HasRoomFrom, told_by_turn, told_by_turns, begun_by_turns, heard_with, IsPhaseWithin, MayStartWith, IsRefusedWith};
 
 use crate::StartFault;
@@ -20,16 +21,30 @@ use switch_session::Channel;
 use topology::Net;
 use update_model::{Change, Event, Phase, Rounds};
 
-/// Appends events for which there is room.
-fn extend_reserved(log: &mut Vec<Event>, events: &[Event])
-    requires { vec_len log.old + length events.now ≤ vec_capacity log.old }
-    ensures items { log.new.items ≡ log.old.items ++ events.now }
-    ensures len { vec_len log.new ≡ vec_len log.old + length events.now }
+/// Logs a change of this number, if it came about. There is room for it.
+fn log_if(log: &mut Vec<Event>, made: bool, number: usize)
+    requires { vec_len log.old < vec_capacity log.old }
+    ensures items { log.new.items
+        ≡ (if made then log.old.items ++ Event.Change number ∷ [] else log.old.items) }
+    ensures len { vec_len log.new ≤ vec_len log.old + 1 }
     ensures capacity { vec_capacity log.old ≤ vec_capacity log.new }
 {
-    let Ok(()) = log.extend_from_slice(events) else {
-        unreachable!()
-    };
+    if made {
+        log.push_reserved(Event::Change(number));
+    }
+}
+
+/// Logs the changes of a switch in a round, ascending. There is room for an event for each change of the round.
+fn log_changes(log: &mut Vec<Event>, round: &[Change], switch: SwitchId)
+    requires { vec_len log.old + length round.now ≤ vec_capacity log.old }
+    ensures items { log.new.items ≡ log.old.items ++ change_events switch 0 round.now }
+    ensures len { vec_len log.new ≤ vec_len log.old + length round.now }
+    ensures capacity { vec_capacity log.old ≤ vec_capacity log.new }
+{
+    for number in 0..round.len() {
+        let is_here = round[number].switch().0 == switch.0;
+        log_if(log, is_here, number);
+    }
 }
 
 /// Makes room for so many more events.
@@ -229,32 +244,44 @@ pub(crate) fn begin(
     Ok(())
 }
 
-/// Bytes come from a switch, whose changes of the running round have these events. Where it answers its barrier request, they
-/// are logged, and the round is settled if no barrier is outstanding.
+/// The changes of the running round; none where no round is running.
+pub(crate) fn running_round<'a>(rounds: &'a Rounds, phase: Phase) -> &'a [Change]
+    requires { IsPhaseWithin rounds.now phase }
+    ensures { result.now ≡ running_round phase rounds.now }
+{
+    match phase {
+        Phase::Running(k) if k > 0 => rounds.round(k as usize - 1),
+        _ => &[],
+    }
+}
+
+/// Bytes come from a switch, while this round is running. Where the switch answers its barrier request, its changes are logged,
+/// and the round is settled if no barrier is outstanding.
 pub(crate) fn hear(
-    number: usize,
+    switch: SwitchId,
     bytes: &[u8],
-    events: &[Event],
+    round: &[Change],
     phase: &mut Phase,
     log: &mut Vec<Event>,
     channels: &mut Vec<Channel>,
 ) -> Result<(), Memory>
-    requires { number < vec_len channels.old }
+    requires { switch.0 < vec_len channels.old }
     ensures ok { OnOk result
         (with_states phase.new log.new.items channels.new.items
-        ≡ heard_with number events.now bytes.now
+        ≡ heard_with switch.0 (change_events switch 0 round.now) bytes.now
         (with_states phase.old log.old.items channels.old.items)) }
     ensures err { OnErr result
         (with_states phase.new log.new.items channels.new.items
         ≡ with_states phase.old log.old.items channels.old.items) }
 {
+    let number = switch.0 as usize;
     let waited = channels[number].outstanding().is_some();
     if waited {
-        reserve(log, events.len() + 1)?;
+        reserve(log, round.len() + 1)?;
     }
     channels[number].feed(bytes)?;
     if waited && channels[number].outstanding().is_none() {
-        extend_reserved(log, events);
+        log_changes(log, round, switch);
         settle_if_answered(phase, log, channels);
     }
     Ok(())

@@ -7,13 +7,13 @@ use Rattle.round_survey.specs.Surveys.{AreGood}
 use Rattle.counter_run.specs.Showing.{shown_rollout}
 use Rattle.counter_run.proofs.searching.mark_good.Goals as goal
 
-pub look-requires-clause-before : goal.look-requires-clause-before
-look-requires-clause-before c j less n class is = c.requires.before j less n class (subst (λ (map : ClassList). IsClass map n class) c.requires.duties is)
+pub survey_round-requires-clause-before : goal.survey_round-requires-clause-before
+survey_round-requires-clause-before c j less n class is = c.requires.before j less n class (subst (λ (map : ClassList). IsClass map n class) c.requires.duties is)
 
 pub returns-then-by_survey-clause-good : goal.returns-then-by_survey-clause-good
 returns-then-by_survey-clause-good c =
-    subst (λ (map : ClassList). OnOk c.look.result (AreGood (shown_rollout c.args.stage) c.args.duties.now.demands c.args.stage.round.number map c.look.new.self.good.items)) c.requires.duties
-    c.look.ensures.good
+    subst (λ (map : ClassList). OnOk c.survey_round.result (AreGood (shown_rollout c.args.stage) c.args.duties.now.demands c.args.stage.round.number map c.survey_round.new.survey.good.items)) c.requires.duties
+    c.survey_round.ensures.good
 
 pub returns-clause-good : goal.returns-clause-good
 returns-clause-good c n class is on =

@@ -1,6 +1,6 @@
 use Rattle.std.proofs.Common.{arith}
 use Rattle.std.proofs.lemmas.Option.{slice_get_within}
-use Rattle.round_survey.proofs.MemberLaws.{tables_from}
+use Rattle.round_survey.proofs.TableLaws.{tables_from}
 use Rattle.round_survey.proofs.keeping.tables_keep.Goals as goal
 
 pub returns : goal.returns

@@ -3,6 +3,7 @@ use Rattle.std.specs.Prelude.{is_some, is_none}
 use Rattle.update_model.proofs.WorldLaws.{on_err}
 use Rattle.update_model.specs.declared.Event.{Event}
 use Rattle.switch_session.specs.Seen.{ChannelView}
+use Rattle.update_driver.specs.Drivers.{change_events}
 use Rattle.update_driver.specs.Inside.{with_states}
 use Rattle.update_driver.proofs.StartLaws.{hear_err, hear_not, hear_answered, seen_before, seen_after, not_none, not_waited}
 use Rattle.update_driver.proofs.starts.hear.Goals as goal
@@ -14,16 +15,16 @@ returns-in_err-feed-clause-err c =
       | then-waited+in_ok-reserve w ↦ ap (λ x. x.items) w.log-is ∙ w.reserve.ensures.items
       | else-waited w ↦ ap (λ x. x.items) w.log-is
     ] in
-    on_err c.from_residual-in_err-feed.result (with_states c.args.phase.now c.if-waited.log.items (set c.args.channels.now.items c.args.number c.feed.new.self) ≡ with_states c.args.phase.now c.args.log.now.items c.args.channels.now.items)
-    (hear_err c.args.phase.now c.args.log.now.items c.if-waited.log.items c.args.channels.now.items c.args.number c.feed.new.self c.index_mut.result.now same c.index_mut.ensures.value c.in_err-feed.ensures.err)
+    on_err c.from_residual-in_err-feed.result (with_states c.args.phase.now c.if-waited.log.items (set c.args.channels.now.items c.args.switch.0 c.feed.new.self) ≡ with_states c.args.phase.now c.args.log.now.items c.args.channels.now.items)
+    (hear_err c.args.phase.now c.args.log.now.items c.if-waited.log.items c.args.channels.now.items c.args.switch.0 c.feed.new.self c.index_mut.result.now same c.index_mut.ensures.value c.in_err-feed.ensures.err)
 
 pub returns-then-is_none-clause-ok : goal.returns-then-is_none-clause-ok
 returns-then-is_none-clause-ok c =
     let channels = c.args.channels.now.items in
-    let n = c.args.number in
+    let n = c.args.switch.0 in
     let v = c.feed.new.self in
     let old = c.index_mut.result.now in
-    let events = c.args.events.now in
+    let events = change_events c.args.switch 0 c.args.round.now in
     let bytes = c.args.bytes.now in
     let phase = c.args.phase.now in
     let log = c.args.log.now.items in
@@ -36,16 +37,16 @@ returns-then-is_none-clause-ok c =
     let state = c.in_ok-feed.ensures.ok in
     let some = seen_before phase log channels n lt events bytes v old at state c.index.result.now true c.index.ensures (ap is_some (sym c.outstanding.ensures) ∙ sym c.is_some-waited.ensures ∙ c.if-waited-2.true) in
     let none = seen_after phase log channels n lt events bytes v old at state c.index-then-waited-2.result.now true c.index-then-waited-2.ensures (ap is_none (sym c.outstanding-then-waited-2.ensures) ∙ ap not c.is_none.ensures ∙ ap (λ b. not (not b)) c.if-is_none.true) in
-    hear_answered phase log channels n lt events bytes v old at state c.settle_if_answered.new.phase c.extend_reserved.new.log.items c.settle_if_answered.new.log.items c.deref.result.now c.deref.ensures.value c.settle_if_answered.ensures
-    (c.extend_reserved.ensures.items ∙ ap (λ l. l ++ events) same) some none
+    hear_answered phase log channels n lt events bytes v old at state c.settle_if_answered.new.phase c.log_changes.new.log.items c.settle_if_answered.new.log.items c.deref.result.now c.deref.ensures.value c.settle_if_answered.ensures
+    (c.log_changes.ensures.items ∙ ap (λ l. l ++ events) same) some none
 
 pub returns-else-waited-2-clause-ok : goal.returns-else-waited-2-clause-ok
 returns-else-waited-2-clause-ok c =
     let channels = c.args.channels.now.items in
-    let n = c.args.number in
+    let n = c.args.switch.0 in
     let v = c.feed.new.self in
     let old = c.index_mut.result.now in
-    let events = c.args.events.now in
+    let events = change_events c.args.switch 0 c.args.round.now in
     let bytes = c.args.bytes.now in
     let phase = c.args.phase.now in
     let log = c.args.log.now.items in

@@ -8,5 +8,5 @@ pub returns-clause-run : goal.returns-clause-run
 returns-clause-run c =
     let d = c.self.inside in
     let v = c.args.self.now in
-    let k = kept d.net.now d.rounds.now d.phase d.log.items d.channels.items d.turns.items d.xid v c.self.view_is c.self.invariant in
+    let k = kept d.net.now d.rounds.now d.phase d.log.items d.channels.items d.xid v c.self.view_is c.self.invariant in
     subst (LogIsRun v.net v.rounds) (sym (ap (λ (w : DriverView). w.state.log) c.self.view_is) ∙ sym c.deref.ensures.value) (reached_run v k.drivable k.reached)

@@ -6,11 +6,11 @@ use Rattle.update_driver.proofs.drivers.Driver.session.Goals as goal
 pub index-requires : goal.index-requires
 index-requires c =
     let d = c.self.inside in
-    let count = channel_count d.net.now d.rounds.now d.phase d.log.items d.channels.items d.turns.items d.xid c.args.self.now c.self.view_is c.self.invariant in
+    let count = channel_count d.net.now d.rounds.now d.phase d.log.items d.channels.items d.xid c.args.self.now c.self.view_is c.self.invariant in
     omega (arith, count, d.channels.ok.0)
 
 pub returns : goal.returns
 returns c =
     let d = c.self.inside in
     c.session.ensures
-    ∙ ap (λ (x : ChannelState). x.session) (channel_is d.net.now d.rounds.now d.phase d.log.items d.channels.items d.turns.items d.xid c.args.self.now c.self.view_is c.self.invariant c.args.s c.index.result.now c.requires c.index.ensures)
+    ∙ ap (λ (x : ChannelState). x.session) (channel_is d.net.now d.rounds.now d.phase d.log.items d.channels.items d.xid c.args.self.now c.self.view_is c.self.invariant c.args.s c.index.result.now c.requires c.index.ensures)

@@ -36,7 +36,7 @@ turns_of-requires-clause-xids c =
     let d = c.self.inside in
     let may : MayStartWith d.net.now d.rounds.now (states_of d.channels.items) d.phase c.in_ok-round.round.now =
     subst (λ l. MayStartWith d.net.now d.rounds.now (states_of l) d.phase c.in_ok-round.round.now) c.deref.ensures.value c.in_ok-round.ensures.ok in
-    start_few d.net.now d.rounds.now d.phase d.log.items d.channels.items d.turns.items d.xid c.args.self.now c.self.view_is c.self.invariant c.in_ok-round.round.now may c.keeps_rules.ensures.few
+    start_few d.net.now d.rounds.now d.phase d.log.items d.channels.items d.xid c.args.self.now c.self.view_is c.self.invariant c.in_ok-round.round.now may c.keeps_rules.ensures.few
 
 pub begin-requires-clause-count : goal.begin-requires-clause-count
 begin-requires-clause-count c =
@@ -55,8 +55,8 @@ invariant_of-self-2 c =
     subst (λ l. MayStartWith d.net.now d.rounds.now (states_of l) d.phase c.in_ok-round.round.now) c.deref.ensures.value c.in_ok-round.ensures.ok in
     let list = c.in_ok-list.field-0.list.items in
     let begins = c.in_ok-begin.ensures.ok ∙ ap (λ l. begun_by_turns l (with_states d.phase d.log.items d.channels.items)) c.deref-2.ensures.value in
-    start_keeps d.net.now d.rounds.now d.phase d.log.items d.channels.items d.turns.items d.xid c.args.self.now c.self.view_is c.self.invariant c.in_ok-round.round.now may list c.in_ok-list.ensures.messages
-    c.in_ok-list.ensures.events c.in_ok-list.ensures.count (with_states c.begin.new.phase c.begin.new.log.items c.begin.new.channels.items) begins c.in_ok-list.field-0.xid c.in_ok-list.ensures.xid
+    start_keeps d.net.now d.rounds.now d.phase d.log.items d.channels.items d.xid c.args.self.now c.self.view_is c.self.invariant c.in_ok-round.round.now may list c.in_ok-list.ensures.messages
+    c.in_ok-list.ensures.count (with_states c.begin.new.phase c.begin.new.log.items c.begin.new.channels.items) begins c.in_ok-list.field-0.xid c.in_ok-list.ensures.xid
 
 pub returns-clause-ok : goal.returns-clause-ok
 returns-clause-ok c =
@@ -65,5 +65,5 @@ returns-clause-ok c =
     subst (λ l. MayStartWith d.net.now d.rounds.now (states_of l) d.phase c.in_ok-round.round.now) c.deref.ensures.value c.in_ok-round.ensures.ok in
     let list = c.in_ok-list.field-0.list.items in
     let begins = c.in_ok-begin.ensures.ok ∙ ap (λ l. begun_by_turns l (with_states d.phase d.log.items d.channels.items)) c.deref-2.ensures.value in
-    start_ok d.net.now d.rounds.now d.phase d.log.items d.channels.items d.turns.items d.xid c.args.self.now c.self.view_is c.self.invariant c.in_ok-round.round.now may list c.in_ok-list.ensures.messages
-    c.in_ok-list.ensures.events c.in_ok-list.ensures.count (with_states c.begin.new.phase c.begin.new.log.items c.begin.new.channels.items) begins
+    start_ok d.net.now d.rounds.now d.phase d.log.items d.channels.items d.xid c.args.self.now c.self.view_is c.self.invariant c.in_ok-round.round.now may list c.in_ok-list.ensures.messages
+    c.in_ok-list.ensures.count (with_states c.begin.new.phase c.begin.new.log.items c.begin.new.channels.items) begins

@@ -1,0 +1,16 @@
+use Rattle.std.proofs.Common.{◌≡◌, ℕ, ◌-◌, true, Some}
+use Rattle.std.specs.Prelude.{slice_get}
+use Rattle.class_watch.specs.Judges.{HasRoomFor, AreHeld}
+use Rattle.class_watch.proofs.rounds.ClassRounds.settle.Given as goal
+
+abbrev pub invariant-settling : goal.invariant-settling
+invariant-settling g l = record {
+  room : HasRoomFor (g.J.ClassJudge.judged l.judge).classes l.self.classes.items l.self.came.items l.self.good.items;
+  classes : l.self.classes.items ≡ l.fn.self.classes.items;
+  held : AreHeld (g.J.ClassJudge.judged l.judge) (g.J.ClassJudge.holds l.judge) l.self.classes.items l.self.came.items l.self.good.items;
+  marked : (n : ℕ) → slice_get l.fn.self.good.items n ≡ Some true → slice_get l.self.good.items n ≡ Some true;
+  told : (n : ℕ) → g.J.ClassJudge.tells l.judge l.fn.found n → g.J.ClassJudge.tells l.judge l.found n;
+}
+
+abbrev pub decreases-settling : goal.decreases-settling
+decreases-settling g l = l.step - l.first

@@ -1,4 +1,0 @@
-pub mod ByteLaws
-pub mod SwitchLaws
-pub mod MessageLaws
-pub mod AgreeLaws
