@@ -90,6 +90,6 @@ ROWS = (
     Row("explain", "check", "check", "IsExplainAnswer", "explain_command.Explained"),
     Row("import", "import", "import", "IsImportAnswer", "import_command.Imported"),
     Row("drive", "drive", "drive", "IsDriveAnswer", "drive_command.Driven"),
-    Row("serve", "check", "check", "SaysRefusal", "serve_command.Serving", promise_in="serve_promise", kind="serves"),
+    Row("serve", "check", "check", "SaysRefusal", "serve_command.Serving", promise_in="law_serve_promise", kind="serves"),
     Row("sample", "size", "", "SaysSummary", "sample_command.Summaries", kind="reads_none"),
 )

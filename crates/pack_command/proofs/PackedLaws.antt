@@ -15,8 +15,8 @@ use Rattle.certificates.specs.Certified.{is_two_phase}
 use Rattle.certificates.specs.Updates.{Update}
 use Rattle.certificates.specs.declared.Plan.{Plan}
 use Rattle.table_difference.specs.Targets.{Target}
-use Rattle.packed_rounds.specs.Packing.{CanStand, IsPackedRound, ArePacked, PacksOrdered, PacksStuck}
-use Rattle.packed_trees.specs.Bounds.{AreBounds}
+use Rattle.law_packed_rounds.specs.Packing.{CanStand, IsPackedRound, ArePacked, PacksOrdered, PacksStuck}
+use Rattle.law_packed_trees.specs.Bounds.{AreBounds}
 use Rattle.round_planner.specs.Search.{single_rounds}
 use Rattle.round_planner.proofs.StandingLaws.{length_rounds}
 use Rattle.round_planner.proofs.UserTables.{user_start, remaining_count}

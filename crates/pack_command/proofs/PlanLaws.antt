@@ -24,8 +24,8 @@ use Rattle.check_reasons.specs.Passed.{ChangesPass}
 use Rattle.check_reasons.specs.Reasons.{IsCommonReason, HasRewrite, class_duties, old_breaks, new_breaks, bad_change, ambiguous, over_capacity, wrong_end}
 use Rattle.check_reasons.specs.declared.reason.Reason.{Reason}
 use Rattle.evidence_store.specs.Stored.{no_evidence}
-use Rattle.packed_rounds.specs.Packing.{PacksOrdered}
-use Rattle.packed_rounds.proofs.Packed.{never_more}
+use Rattle.law_packed_rounds.specs.Packing.{PacksOrdered}
+use Rattle.law_packed_rounds.proofs.Packed.{never_more}
 use Rattle.plan_checker.proofs.Refuted.{break_refuted, within_rounds, bad_change_refuted, unclear_refuted, need_fits, rewrite_refuted}
 use Rattle.round_certifier.specs.Refusals.{HasNoEvidence, IsCause, IsFirstRefusal, common_reason, some_rewrite, two_phase_plan, no_evidence as none_keeps}
 use Rattle.round_certifier.specs.Standing.{target_for}

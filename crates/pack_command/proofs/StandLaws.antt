@@ -21,9 +21,9 @@ use Rattle.certificates.specs.Updates.{Update}
 use Rattle.certificates.proofs.TreeTables.{unique_in_table}
 use Rattle.table_difference.specs.SameClasses.{BringNoPrefix}
 use Rattle.table_difference.proofs.LengthLaws.{few_remain}
-use Rattle.packed_rounds.specs.Packing.{CanStand, ArePacked, IsPackedRound, PacksOrdered, tables_past}
-use Rattle.packed_rounds.proofs.Filled.{filled_stands}
-use Rattle.packed_rounds.proofs.Packed.{packed_part, part_made}
+use Rattle.law_packed_rounds.specs.Packing.{CanStand, ArePacked, IsPackedRound, PacksOrdered, tables_past}
+use Rattle.law_packed_rounds.proofs.Filled.{filled_stands}
+use Rattle.law_packed_rounds.proofs.Packed.{packed_part, part_made}
 use Rattle.round_planner.specs.Updates.{update_target}
 use Rattle.round_planner.proofs.EndLaws.{same_when_none}
 use Rattle.round_planner.proofs.UserTables.{AreUserTables, IsUserChange, plan_change, keeps_user, user_start, user_next, remaining_user, remaining_applies}

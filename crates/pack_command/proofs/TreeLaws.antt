@@ -6,9 +6,9 @@ use Rattle.update_model.specs.declared.Change.{Change}
 use Rattle.certificates.specs.Trees.{IsTreeUpdate}
 use Rattle.certificates.specs.Updates.{Task, Update}
 use Rattle.certificates.specs.declared.Plan.{Plan}
-use Rattle.packed_rounds.specs.Packing.{PacksOrdered, PacksStuck}
-use Rattle.packed_trees.specs.Bounds.{AreBounds}
-use Rattle.packed_trees.specs.TreeUpdates.{IsUserTreeUpdate, task_target}
+use Rattle.law_packed_rounds.specs.Packing.{PacksOrdered, PacksStuck}
+use Rattle.law_packed_trees.specs.Bounds.{AreBounds}
+use Rattle.law_packed_trees.specs.TreeUpdates.{IsUserTreeUpdate, task_target}
 use Rattle.round_planner.specs.Updates.{bare_task}
 use Rattle.command_base.specs.Answers.{Answer}
 use Rattle.pack_command.specs.declared.names.PackKind.{PackKind}

@@ -8,7 +8,7 @@ use Rattle.certificates.specs.declared.Evidence.TheVariants.{Ordered}
 use Rattle.certificates.specs.declared.OrderedEvidence.{OrderedEvidence}
 use Rattle.certificates.specs.declared.Plan.{Plan}
 use Rattle.evidence_store.specs.Stored.{no_evidence}
-use Rattle.packed_rounds.specs.Packing.{PacksOrdered, PacksStuck}
+use Rattle.law_packed_rounds.specs.Packing.{PacksOrdered, PacksStuck}
 use Rattle.round_judge.specs.Evidence.{IsSearchEvidence}
 use Rattle.round_certifier.specs.Standing.{target_for}
 use Rattle.round_planner.specs.Ends.{IsPlanOf, AreStuck}

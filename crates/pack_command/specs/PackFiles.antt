@@ -8,7 +8,7 @@ use Rattle.update_model.specs.Remaining.{remaining_changes}
 use Rattle.update_model.specs.declared.Change.{Change}
 use Rattle.certificates.specs.Updates.{Update}
 use Rattle.table_difference.specs.Targets.{Target}
-use Rattle.packed_rounds.specs.Packing.{CanStand}
+use Rattle.law_packed_rounds.specs.Packing.{CanStand}
 use Rattle.two_phase.specs.Laws.{FitsTwoPhase}
 use Rattle.plan_command.specs.Ends.{BothEndsAreGood, IsEndLine}
 use Rattle.plan_command.specs.NewPlans.{FilesHave, FilesLackTags, FilesLackRoom, IsOrdered}

@@ -3,8 +3,8 @@ use Rattle.std.specs.Prelude.{◌≡◌, ◌⊎◌, ℕ, ◌+◌, ◌≤◌, Lis
 use Rattle.topology.specs.Networks.{Network}
 use Rattle.update_model.specs.declared.Change.{Change}
 use Rattle.certificates.specs.Updates.{Update}
-use Rattle.packed_rounds.specs.Packing.{PacksOrdered}
-use Rattle.packed_trees.specs.Bounds.{AreBounds}
+use Rattle.law_packed_rounds.specs.Packing.{PacksOrdered}
+use Rattle.law_packed_trees.specs.Bounds.{AreBounds}
 use Rattle.round_planner.specs.Updates.{update_target, bare_task}
 use Rattle.command_base.specs.declared.status.Status.TheVariants as status
 use Rattle.command_base.specs.Answers.{Answer}

@@ -6,8 +6,8 @@ use Rattle.update_model.specs.Remaining.{remaining_changes}
 use Rattle.certificates.specs.Certified.{is_two_phase}
 use Rattle.certificates.specs.Updates.{Update}
 use Rattle.certificates.specs.declared.Plan.{Plan}
-use Rattle.packed_rounds.specs.Packing.{CanStand, PacksOrdered}
-use Rattle.packed_trees.specs.Bounds.{AreBounds}
+use Rattle.law_packed_rounds.specs.Packing.{CanStand, PacksOrdered}
+use Rattle.law_packed_trees.specs.Bounds.{AreBounds}
 use Rattle.round_planner.specs.Updates.{update_target, update_count, bare_task, KeepsConsistent}
 use Rattle.tag_allocator.specs.Tags.{available_tags}
 use Rattle.two_phase.specs.Laws.{FitsTwoPhase}

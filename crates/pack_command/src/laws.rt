@@ -8,7 +8,7 @@ ghost use Rattle.pack_command.specs.Names.{PackNames};
 ghost use Rattle.pack_command.specs.Packed.{IsPacked};
 ghost use Rattle.pack_command.specs.Promise.{PackPromise};
 
-use packed_rounds::laws::{
+use law_packed_rounds::laws::{
     never_more_rounds_than_changes, one_round_where_one_is_enough, packing_ends_once,
     rounds_are_full,
 };

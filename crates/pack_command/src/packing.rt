@@ -8,7 +8,7 @@ ghost use Rattle.certificates.specs.Updates.{task_for};
 ghost use Rattle.certificates.specs.Valid.{IsValidPlan};
 ghost use Rattle.certificates.specs.declared.Evidence.TheVariants.{Ordered};
 ghost use Rattle.evidence_store.specs.Stored.{no_evidence};
-ghost use Rattle.packed_rounds.specs.Packing.{PacksOrdered};
+ghost use Rattle.law_packed_rounds.specs.Packing.{PacksOrdered};
 ghost use Rattle.plan_checker.specs.Fits.{Fits};
 ghost use Rattle.round_planner.specs.Updates.{update_classes, update_count, update_target};
 ghost use Rattle.table_difference.specs.SameClasses.{HasSameClasses};

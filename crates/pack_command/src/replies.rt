@@ -2,7 +2,7 @@
 ghost use Rattle.std.specs.Prelude.{◌≤◌, IfOk};
 ghost use Rattle.flow_rules.specs.Tables.{rules_of_all};
 ghost use Rattle.path_walk.specs.UserConfigs.{IsUserConfig};
-ghost use Rattle.packed_rounds.specs.Packing.{PacksOrdered};
+ghost use Rattle.law_packed_rounds.specs.Packing.{PacksOrdered};
 ghost use Rattle.round_planner.specs.Updates.{update_count, update_target};
 ghost use Rattle.command_base.specs.Judgements.{most_classes};
 ghost use Rattle.command_base.specs.Updates.{meaning_of};
@@ -15,8 +15,8 @@ use crate::names::PackKind;
 use crate::packing::packed_plan;
 use crate::phasing::{ordered_reply, stuck_reply, two_phase_reply};
 use command_base::{Reply, UpdateFiles};
+use law_packed_trees::laws::{trees_are_never_stuck, trees_take_few_rounds};
 use net_base::Memory;
-use packed_trees::laws::{trees_are_never_stuck, trees_take_few_rounds};
 use plan_command::{EndsVerdict, GoodEnds, judge_ends};
 use round_packer::{Packing, pack};
 use round_planner::{Ordered, order};

@@ -6,7 +6,7 @@ use Rattle.flow_rules.specs.Tables.{rules_at, TableState}
 use Rattle.flow_rules.specs.declared.rules.Rule.{Rule}
 use Rattle.update_model.specs.Changes.{switch_of, Applies, round_after}
 use Rattle.update_model.specs.declared.Change.{Change}
-use Rattle.two_way_runs.specs.Inverse.{inverse_of, inverse_round}
+use Rattle.law_two_way_runs.specs.Inverse.{inverse_of, inverse_round}
 
 pub front : {A : Type 0} (xs : List A) (i : ℕ) (x : A) → i < length xs → x ≡ get_or xs i x → drop i xs ≡ x ∷ drop (i + 1) xs
 front {A} xs i x less at = drop-cons xs i x less ∙ ap (λ (y : A). y ∷ drop (suc i) xs) (sym at) ∙ ap (λ (n : ℕ). x ∷ drop n xs) (sym (add-one i))

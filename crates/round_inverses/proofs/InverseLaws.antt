@@ -8,7 +8,7 @@ use Rattle.update_model.specs.Changes.{switch_of, round_after, settled_tables, t
 use Rattle.update_model.specs.declared.Change.{Change}
 use Rattle.update_model.specs.declared.Change.TheVariants.{Insert, Delete, Replace}
 use Rattle.round_messages.specs.Requests.{is_changed}
-use Rattle.two_way_runs.specs.Inverse.{inverse_of, inverse_round}
+use Rattle.law_two_way_runs.specs.Inverse.{inverse_of, inverse_round}
 use Rattle.round_inverses.specs.Rounds.{AreGoodFrom, inverse_rounds}
 
 pub inverse_count : (tables : List (List Rule)) (rounds : List (List Change)) → length (inverse_rounds tables rounds) ≡ length rounds

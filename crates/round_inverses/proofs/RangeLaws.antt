@@ -13,11 +13,11 @@ use Rattle.update_model.proofs.HeldLaws.{each_tables_after}
 use Rattle.update_model.specs.Ranges.{IsPlanChange}
 use Rattle.update_model.specs.declared.Change.{Change}
 use Rattle.update_model.specs.declared.Change.TheVariants.{Insert, Delete, Replace}
-use Rattle.two_way_runs.specs.Inverse.{rule_with, inverse_of, inverse_round}
+use Rattle.law_two_way_runs.specs.Inverse.{rule_with, inverse_of, inverse_round}
 use Rattle.round_inverses.specs.Rounds.{inverse_rounds}
 use Rattle.round_inverses.specs.Ranges.{ArePlanRounds}
-use Rattle.plan_rules.specs.PlanRules.{IsPlanRule, ArePlanTables}
-use Rattle.plan_rules.proofs.UserRules.{rule_of_plan}
+use Rattle.law_plan_rules.specs.PlanRules.{IsPlanRule, ArePlanTables}
+use Rattle.law_plan_rules.proofs.UserRules.{rule_of_plan}
 
 -- ---- rules of tables
 

@@ -3,7 +3,7 @@ use Rattle.std.specs.Prelude.{List, [], ◌∷◌}
 use Rattle.flow_rules.specs.declared.rules.Rule.{Rule}
 use Rattle.update_model.specs.Changes.{tables_after, IsGoodRound}
 use Rattle.update_model.specs.declared.Change.{Change}
-use Rattle.two_way_runs.specs.Inverse.{inverse_round}
+use Rattle.law_two_way_runs.specs.Inverse.{inverse_round}
 
 -- each round is good over the tables that the rounds before it leave
 abbrev pub AreGoodFrom : List (List Rule) → List (List Change) → Type 0

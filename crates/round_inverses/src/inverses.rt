@@ -2,7 +2,7 @@
 ghost use Rattle.std.specs.Prelude.{◌≡◌, ◌<◌, length, IfOk, OnOk};
 ghost use Rattle.flow_rules.specs.Tables.{rules_at, rules_of_all};
 ghost use Rattle.update_model.specs.Changes.{tables_after, IsGoodRound};
-ghost use Rattle.two_way_runs.specs.Inverse.{rule_with, inverse_of, inverse_round};
+ghost use Rattle.law_two_way_runs.specs.Inverse.{rule_with, inverse_of, inverse_round};
 ghost use Rattle.round_inverses.specs.Rounds.{AreGoodFrom, inverse_rounds};
 
 use flow_rules::{Config, Rule};

@@ -7,8 +7,8 @@ ghost use Rattle.update_model.specs.Changes.{round_after};
 ghost use Rattle.update_model.specs.Mixtures.{Rollout, AreGoodRounds, tables_before};
 ghost use Rattle.update_model.specs.declared.Change.{Change};
 ghost use Rattle.round_messages.specs.Requests.{is_changed};
-ghost use Rattle.two_way_runs.specs.Inverse.{inverse_round};
-ghost use Rattle.plan_rules.specs.PlanRules.{ArePlanTables};
+ghost use Rattle.law_two_way_runs.specs.Inverse.{inverse_round};
+ghost use Rattle.law_plan_rules.specs.PlanRules.{ArePlanTables};
 ghost use Rattle.round_inverses.specs.Ranges.{ArePlanRounds};
 ghost use Rattle.round_inverses.specs.Rounds.{AreGoodFrom, inverse_rounds};
 

@@ -33,7 +33,7 @@ use Rattle.class_watch.specs.Alike.{covering_changes, AreAlike}
 use Rattle.class_watch.proofs.CoveringLaws.{covering_kept}
 use Rattle.class_watch.proofs.StandLaws.{alike_walks, alike_safe}
 use Rattle.table_difference.specs.Targets.{Target}
-use Rattle.packed_rounds.specs.Packing.{CanStand}
+use Rattle.law_packed_rounds.specs.Packing.{CanStand}
 use Rattle.round_mix.proofs.RoundLaws.{within_good}
 use Rattle.round_trials.proofs.FitLaws.{at_more}
 use Rattle.round_packer.specs.declared.failing.Failure.{Failure}

@@ -13,7 +13,7 @@ use Rattle.check_reasons.specs.Loaded.{AreLoaded}
 use Rattle.round_mix.specs.Prepared.{MixedState}
 use Rattle.mixed_walks.specs.Walks.{TablesKeepVlans}
 use Rattle.table_difference.specs.Targets.{Target}
-use Rattle.packed_rounds.specs.Packing.{CanStand, IsFilled}
+use Rattle.law_packed_rounds.specs.Packing.{CanStand, IsFilled}
 use Rattle.round_trials.specs.Filling.{TrialState, FitTables, IsTrial}
 use Rattle.round_judge.specs.Goals.{HasAtoms}
 use Rattle.round_packer.specs.declared.failing.Failure.{Failure}

@@ -22,8 +22,8 @@ use Rattle.mixed_walks.proofs.PlaceLaws.{tables_keep}
 use Rattle.certificates.proofs.TreeTables.{unique_in_table}
 use Rattle.path_walk.specs.UserConfigs.{IsUserConfig}
 use Rattle.table_difference.specs.Targets.{Target}
-use Rattle.packed_rounds.specs.Packing.{CanStand, IsFilled, IsPackedRound, ArePacked, PacksOrdered, PacksStuck, tables_past}
-use Rattle.packed_rounds.proofs.Packed.{packed_part, part_made, some_more}
+use Rattle.law_packed_rounds.specs.Packing.{CanStand, IsFilled, IsPackedRound, ArePacked, PacksOrdered, PacksStuck, tables_past}
+use Rattle.law_packed_rounds.proofs.Packed.{packed_part, part_made, some_more}
 use Rattle.round_trials.specs.Filling.{TrialState, IsTrial}
 use Rattle.round_judge.specs.Goals.{HasAtoms}
 use Rattle.update_model.proofs.HeldLaws.{each_tables_after}

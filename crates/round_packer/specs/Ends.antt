@@ -2,7 +2,7 @@
 use Rattle.std.specs.Prelude.{List}
 use Rattle.flow_rules.specs.declared.rules.Rule.{Rule}
 use Rattle.table_difference.specs.Targets.{Target}
-use Rattle.packed_rounds.specs.Packing.{PacksOrdered, PacksStuck}
+use Rattle.law_packed_rounds.specs.Packing.{PacksOrdered, PacksStuck}
 use Rattle.round_packer.specs.declared.Packing.{Packing}
 use Rattle.round_packer.specs.declared.Packing.TheVariants.{Ordered, Stuck}
 

@@ -11,7 +11,7 @@ use Rattle.update_model.specs.declared.Change.{Change}
 use Rattle.certificates.specs.Certified.{KeepsVlan}
 use Rattle.mixed_walks.specs.Walks.{TablesKeepVlans}
 use Rattle.table_difference.specs.Targets.{Target}
-use Rattle.packed_rounds.specs.Packing.{CanStand, IsFilled, ArePacked, PacksOrdered, PacksStuck, tables_past}
+use Rattle.law_packed_rounds.specs.Packing.{CanStand, IsFilled, ArePacked, PacksOrdered, PacksStuck, tables_past}
 use Rattle.round_trials.specs.Filling.{TrialState, IsTrial}
 use Rattle.round_judge.specs.Goals.{HasAtoms}
 use Rattle.round_packer.specs.declared.failing.Failure.{Failure}

@@ -22,7 +22,7 @@ use Rattle.update_model.specs.declared.Change.TheVariants.{Insert, Delete, Repla
 use Rattle.update_model.proofs.ChangeLaws.{stands_from_in, rules_at-after_change, length-tables_after}
 use Rattle.update_model.proofs.DifferenceLaws.{IsDifference, difference_switch, remaining_is}
 use Rattle.update_model.proofs.RemainingLaws.{AreUnique, unique_then, remaining_shortens}
-use Rattle.plan_rules.proofs.UserRules.{change_plan, rule_plan}
+use Rattle.law_plan_rules.proofs.UserRules.{change_plan, rule_plan}
 use Rattle.certificates.specs.Certified.{KeepsVlan}
 use Rattle.certificates.proofs.TreeTables.{unique_in_table}
 use Rattle.table_difference.specs.Targets.{Target}

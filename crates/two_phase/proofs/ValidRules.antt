@@ -21,8 +21,8 @@ use Rattle.path_walk.specs.UserConfigs.{IsUserConfig, IsUserRule, IsUserAction}
 use Rattle.update_model.specs.Changes.{rule_of}
 use Rattle.update_model.specs.Ranges.{IsPlanVlan, IsPlanRewrite, IsPlanAction, IsPlanChange}
 use Rattle.update_model.specs.declared.Change.{Change}
-use Rattle.plan_rules.specs.PlanRules.{IsPlanRule}
-use Rattle.plan_rules.proofs.UserRules.{keep_plan, change_plan, used_number, port_plan, rule_plan}
+use Rattle.law_plan_rules.specs.PlanRules.{IsPlanRule}
+use Rattle.law_plan_rules.proofs.UserRules.{keep_plan, change_plan, used_number, port_plan, rule_plan}
 use Rattle.tag_allocator.specs.Tags.{Tagged, tags_of, available_tags}
 use Rattle.tag_allocator.proofs.TagLaws.{tag_available}
 use Rattle.table_difference.specs.SameClasses.{every_address}

@@ -13,10 +13,10 @@ use Rattle.update_model.specs.declared.Event.TheVariants as event
 use Rattle.update_model.specs.declared.Phase.TheVariants.{Running}
 use Rattle.round_messages.proofs.Places.{get_set_same, get_set_other, drop_head, drop_none}
 use Rattle.schedule_pilot.proofs.PendingLaws.{pending_applies}
-use Rattle.two_way_runs.specs.States.{TwoWayEvent, TwoWayState, Onward, Undo, first_two_way, IsTwoWayEnabled, two_way_after}
-use Rattle.two_way_runs.specs.Runs.{AreTwoWayEnabled, two_way_state, IsTwoWayRun, state_after_two_way}
-use Rattle.two_way_runs.proofs.Flags.{turned_get}
-use Rattle.two_way_runs.proofs.Turning.{Sound, TablesAre, sound_both_ways}
+use Rattle.law_two_way_runs.specs.States.{TwoWayEvent, TwoWayState, Onward, Undo, first_two_way, IsTwoWayEnabled, two_way_after}
+use Rattle.law_two_way_runs.specs.Runs.{AreTwoWayEnabled, two_way_state, IsTwoWayRun, state_after_two_way}
+use Rattle.law_two_way_runs.proofs.Flags.{turned_get}
+use Rattle.law_two_way_runs.proofs.Turning.{Sound, TablesAre, sound_both_ways}
 use Rattle.two_way_driver.specs.Drivers.{log_if, change_notes, undo_notes}
 use Rattle.two_way_driver.specs.Laws.{event_of, event_in, events_in}
 use Rattle.two_way_driver.specs.declared.DriverEvent.{DriverEvent}

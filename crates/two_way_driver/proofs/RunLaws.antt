@@ -27,10 +27,10 @@ use Rattle.switch_session.specs.Channels.{ChannelState, hello, is_open, is_faile
 use Rattle.switch_session.proofs.ByteLaws.{keeps_barrier}
 use Rattle.turned_rounds.specs.Batches.{next_if, xid_behind, batch_of}
 use Rattle.turned_rounds.specs.declared.outgoing.Outgoing.{Outgoing}
-use Rattle.two_way_runs.specs.States.{TwoWayEvent, TwoWayState, first_two_way, IsTwoWayEnabled, two_way_after, turned_back}
-use Rattle.two_way_runs.specs.States as two_way
-use Rattle.two_way_runs.specs.Runs.{IsTwoWayRun, state_after_two_way}
-use Rattle.two_way_runs.proofs.Turning.{TablesAre}
+use Rattle.law_two_way_runs.specs.States.{TwoWayEvent, TwoWayState, first_two_way, IsTwoWayEnabled, two_way_after, turned_back}
+use Rattle.law_two_way_runs.specs.States as two_way
+use Rattle.law_two_way_runs.specs.Runs.{IsTwoWayRun, state_after_two_way}
+use Rattle.law_two_way_runs.proofs.Turning.{TablesAre}
 use Rattle.two_way_driver.specs.PeerStates.{PeerState}
 use Rattle.two_way_driver.specs.Peers.{first_peer, failure_in, heard_of, kept_of, peer_after, queued_peer, asks, asks_again, answers, reopened_peer}
 use Rattle.two_way_driver.specs.Drivers.{DriverState, peer_at, with_peer, with_said, send_if, sends, is_to_open, is_to, asks_if, asked_from, sent_out, settled_in, all_answered, settled_if_answered, undo_notes, made_state, undone_state, carried_out, answered_state, sent_again, opened_state, running_round, asked_round, heard_state, fed_byte, state_after_bytes, first_words, first_driver, flagged_state, started_with, undone_with, turned_with, start_fault_in, back_fault_in, started_in, turned_in, reopened_driver}

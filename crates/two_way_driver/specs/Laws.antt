@@ -9,9 +9,9 @@ use Rattle.update_model.specs.declared.Change.{Change}
 use Rattle.update_model.specs.declared.Event.TheVariants as event
 use Rattle.update_model.specs.declared.Phase.{Phase}
 use Rattle.update_model.specs.declared.Phase.TheVariants as phase
-use Rattle.two_way_runs.specs.States.{TwoWayEvent}
-use Rattle.two_way_runs.specs.States as two_way
-use Rattle.two_way_runs.specs.Runs.{IsTwoWayRun, state_after_two_way}
+use Rattle.law_two_way_runs.specs.States.{TwoWayEvent}
+use Rattle.law_two_way_runs.specs.States as two_way
+use Rattle.law_two_way_runs.specs.Runs.{IsTwoWayRun, state_after_two_way}
 use Rattle.switch_session.specs.Fronts.{front_of}
 use Rattle.switch_session.specs.Channels.{ChannelState, is_failed}
 use Rattle.switch_session.specs.declared.fronts.Front.TheVariants.{Short}

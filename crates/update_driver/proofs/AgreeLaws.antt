@@ -31,8 +31,8 @@ use Rattle.switch_session.proofs.TalkLaws.{front_nil}
 use Rattle.turned_rounds.specs.Batches.{xid_behind, batch_of, outgoing_of}
 use Rattle.turned_rounds.specs.declared.outgoing.Outgoing.{Outgoing}
 use Rattle.turned_rounds.proofs.NumberLaws.{xid_is, batch_is}
-use Rattle.two_way_runs.specs.States as two_way
-use Rattle.two_way_runs.specs.Laws.{onward_events}
+use Rattle.law_two_way_runs.specs.States as two_way
+use Rattle.law_two_way_runs.specs.Laws.{onward_events}
 use Rattle.update_driver.specs.Drivers as one
 use Rattle.update_driver.specs.Drivers.{DriverState as OnwardState, channel_at, with_channel, none_outstanding, change_events, is_answered, messages_for, barrier_in, told_channel, told_all}
 use Rattle.update_driver.specs.Calls as onward

@@ -4,10 +4,10 @@ use Rattle.std.specs.List.{AllByRecursion}
 use Rattle.topology.specs.Networks.{Network}
 use Rattle.update_model.specs.declared.Change.{Change}
 use Rattle.update_model.specs.declared.Event.{Event}
-use Rattle.two_way_runs.specs.Runs.{IsTwoWayRun}
-use Rattle.two_way_runs.specs.States as two_way
-use Rattle.two_way_runs.specs.States.{TwoWayEvent}
-use Rattle.two_way_runs.proofs.NeverBack.{onward_runs}
+use Rattle.law_two_way_runs.specs.Runs.{IsTwoWayRun}
+use Rattle.law_two_way_runs.specs.States as two_way
+use Rattle.law_two_way_runs.specs.States.{TwoWayEvent}
+use Rattle.law_two_way_runs.proofs.NeverBack.{onward_runs}
 use Rattle.two_way_driver.specs.Calls.{AreTurnable}
 use Rattle.two_way_driver.specs.Laws as turning
 use Rattle.two_way_driver.specs.Laws.{rollout_of, event_of, events_in}

@@ -4,7 +4,7 @@ use Rattle.std.specs.List.{concat}
 use Rattle.net_base.specs.declared.ids.SwitchId.{SwitchId}
 use Rattle.topology.specs.Networks.{Network, switch_count}
 use Rattle.update_model.specs.declared.Change.{Change}
-use Rattle.two_way_runs.specs.Laws.{onward_events}
+use Rattle.law_two_way_runs.specs.Laws.{onward_events}
 use Rattle.update_driver.specs.Calls as onward
 use Rattle.update_driver.specs.Drivers.{DriverState as OnwardState, channel_at, start_fault as onward_fault}
 use Rattle.two_way_driver.specs.Drivers.{peer_at}

@@ -5,7 +5,7 @@ use Rattle.flow_rules.specs.Tables.{rules_of_all, rules_at}
 use Rattle.flow_rules.specs.declared.rules.Rule.{Rule}
 use Rattle.update_model.specs.Changes.{switch_of}
 use Rattle.update_model.specs.declared.Change.{Change}
-use Rattle.two_way_runs.specs.Inverse.{inverse_of, inverse_round}
+use Rattle.law_two_way_runs.specs.Inverse.{inverse_of, inverse_round}
 use Rattle.round_inverses.proofs.GoodLaws.{inverse_split, rules_got}
 use Rattle.round_inverses.proofs.inverses.inverse_round.Goals as goal
 

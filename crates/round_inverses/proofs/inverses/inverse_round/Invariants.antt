@@ -1,6 +1,6 @@
 use Rattle.std.proofs.Common.{◌≡◌, ◌≤◌, length, drop}
 use Rattle.flow_rules.specs.Tables.{rules_of_all}
-use Rattle.two_way_runs.specs.Inverse.{inverse_round}
+use Rattle.law_two_way_runs.specs.Inverse.{inverse_round}
 use Rattle.round_inverses.proofs.inverses.inverse_round.Given as goal
 
 abbrev pub invariant-loop-left : goal.invariant-loop-left

@@ -1,5 +1,5 @@
 use Rattle.std.proofs.Common.{◌≡◌, drop}
-use Rattle.two_way_runs.specs.Inverse.{rule_with}
+use Rattle.law_two_way_runs.specs.Inverse.{rule_with}
 use Rattle.round_inverses.proofs.inverses.rule_with.Given as goal
 
 abbrev pub invariant-loop-one : goal.invariant-loop-one

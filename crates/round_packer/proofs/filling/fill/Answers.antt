@@ -6,7 +6,7 @@ use Rattle.net_base.specs.Members.{IsIn}
 use Rattle.net_base.proofs.ItemLaws.{in_at}
 use Rattle.net_base.proofs.MemberLaws.{each_at}
 use Rattle.update_model.specs.declared.Change.{Change}
-use Rattle.packed_rounds.specs.Packing.{CanStand, IsFilled}
+use Rattle.law_packed_rounds.specs.Packing.{CanStand, IsFilled}
 use Rattle.std.proofs.lemmas.List.{drop_all}
 use Rattle.round_packer.specs.declared.failing.Failure.{Failure}
 use Rattle.round_packer.specs.Filling.{IsPlain, HasFailed}

@@ -5,7 +5,7 @@ use Rattle.update_model.specs.declared.Change.{Change}
 use Rattle.update_model.proofs.RemainingLaws.{AllUnique}
 use Rattle.certificates.proofs.TreeTables.{unique_in_table}
 use Rattle.mixed_walks.proofs.PlaceLaws.{tables_keep}
-use Rattle.packed_rounds.specs.Packing.{tables_past}
+use Rattle.law_packed_rounds.specs.Packing.{tables_past}
 use Rattle.round_packer.specs.Filling.{HasFailed}
 use Rattle.round_packer.proofs.PackLaws.{left_remains, plain_left, filled_left, packed_next, failed_next, fewer_left, stuck_here, ordered_here, told_empty, told_some}
 use Rattle.round_packer.proofs.rounds.pack_rounds.Goals as goal

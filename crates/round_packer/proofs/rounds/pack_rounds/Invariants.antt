@@ -2,7 +2,7 @@ use Rattle.std.proofs.Common.{◌≡◌, List, [], length}
 use Rattle.std.specs.List.{AllByRecursion}
 use Rattle.flow_rules.specs.declared.rules.Rule.{Rule}
 use Rattle.update_model.specs.Remaining.{remaining_changes}
-use Rattle.packed_rounds.specs.Packing.{tables_past}
+use Rattle.law_packed_rounds.specs.Packing.{tables_past}
 use Rattle.round_packer.specs.Filling.{IsPackedTo, HasFailed}
 use Rattle.round_packer.proofs.rounds.pack_rounds.Given as goal
 

@@ -6,7 +6,7 @@ use Rattle.check_base.specs.Checks.{task_in}
 use Rattle.round_inverses.specs.Rounds.{inverse_rounds}
 use Rattle.two_way_driver.specs.Calls.{AreTurnable}
 use Rattle.serve_command.specs.Serving.{meaning_of}
-use Rattle.plan_rules.proofs.UserRules.{tables_plan}
+use Rattle.law_plan_rules.proofs.UserRules.{tables_plan}
 use Rattle.serve_command.proofs.command.serve_certified.Goals as goal
 
 pub inverse_rounds-requires : goal.inverse_rounds-requires

@@ -1,5 +1,0 @@
-use Rattle.serve_promise.proofs.PromiseLaws.{promised}
-use Rattle.serve_promise.proofs.laws.serve_promised.Goals as goal
-
-pub returns : goal.returns
-returns c = λ files names old new selected taken result ends. promised files names old new selected taken result ends

@@ -1,5 +1,0 @@
-use Rattle.two_way_runs.proofs.Turning.{walked_both_ways}
-use Rattle.two_way_runs.proofs.laws.each_walks_one_round.Goals as goal
-
-pub returns : goal.returns
-returns c = walked_both_ways

@@ -1,5 +1,0 @@
-use Rattle.two_way_runs.proofs.Inverses.{mixture_fits}
-use Rattle.two_way_runs.proofs.laws.mixtures_fit.Goals as goal
-
-pub returns : goal.returns
-returns c = mixture_fits

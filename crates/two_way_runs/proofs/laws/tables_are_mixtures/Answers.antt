@@ -1,5 +1,0 @@
-use Rattle.two_way_runs.proofs.Turning.{mixtures_both_ways}
-use Rattle.two_way_runs.proofs.laws.tables_are_mixtures.Goals as goal
-
-pub returns : goal.returns
-returns c = mixtures_both_ways
