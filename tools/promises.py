@@ -43,7 +43,7 @@ def groups_in(text, record):
 
 def clause_of(row):
     """Returns the clause of `run` that carries the promise of a command."""
-    return row.promise_in or row.name
+    return row.promise_in.removeprefix("law_") or row.name
 
 
 def undefined_in(comment, specs):

@@ -41,7 +41,7 @@ class Templates(unittest.TestCase):
     def test_the_libraries_are_those_of_the_commands(self):
         self.assertEqual(
             commands.with_libraries("one: two\nplanner_run: old\nplanner_cli: planner_run\n", ROWS),
-            "one: two\nplanner_run: file_access certificates command_base check_base check_command simulate_command serve_command serve_promise "
+            "one: two\nplanner_run: file_access certificates command_base check_base check_command simulate_command serve_command law_serve_promise "
             "sample_command\nplanner_cli: planner_run\n",
         )
 

@@ -1,4 +1,4 @@
-"""Holds that no sentence of the pages that an operator reads is longer than LONGEST words, and that each link to a
+"""Holds that no sentence of the pages that are read first is longer than LONGEST words, and that each link to a
 section has one.
 
     tools/test_documents.py              the tests
@@ -12,7 +12,7 @@ import unittest
 
 ROOT = os.path.dirname(os.path.dirname(os.path.realpath(__file__)))
 LONGEST = 40
-PAGES = ("README.md", "docs/TOUR.md", "docs/CONTROLLER.md", "docs/CLAIMS.md")
+PAGES = ("README.md", "docs/TOUR.md", "docs/CONTROLLER.md", "docs/CLAIMS.md", "docs/MAP.md")
 # Where all documents are, for their links.
 PLACES = ("*.md", "docs/*.md", "lab/*.md", "examples/*/*.md", "planner_tools/page/*.md")
 

@@ -52,7 +52,7 @@ AreHeld at holds classes came good =
     → IsHeld at holds n class set
 
 -- there is room for the classes, and of each that is marked this is held
-pub record AreKept (at : JudgedRound) (holds : ℕ → Class → Type 0) (rounds : ClassRounds) : Type 0 where
+pub record AreKeptClasses (at : JudgedRound) (holds : ℕ → Class → Type 0) (rounds : ClassRounds) : Type 0 where
   pub room : HasRoomFor at.classes rounds.classes.items rounds.came.items rounds.good.items
   pub held : AreHeld at holds rounds.classes.items rounds.came.items rounds.good.items
 

@@ -1,7 +1,7 @@
 //! The classes of a map while they are judged round by round.
 ghost use Rattle.std.specs.Prelude.{◌≡◌, ℕ, suc, ◌+◌, ◌<◌, true, slice_get, Some, IfOk};
 ghost use Rattle.dest_classes.specs.Classes.{class_count};
-ghost use Rattle.class_watch.specs.Judges.{IsWatched, HasRoomFor, AreKept, AreMarkedHeld, AreMarkedOver, AreWalkedBelow, ArePassedOver};
+ghost use Rattle.class_watch.specs.Judges.{IsWatched, HasRoomFor, AreKeptClasses, AreMarkedHeld, AreMarkedOver, AreWalkedBelow, ArePassedOver};
 ghost use Rattle.class_watch.specs.Walks.{WalksStand};
 
 use crate::classes::all_classes;
@@ -78,8 +78,8 @@ impl ClassRounds {
         requires some { 0 < step }
         requires ready { J.is_ready judge.now }
         requires round { IsWatched round (J.judged judge.now) }
-        requires kept { AreKept (J.judged judge.now) (J.holds judge.now) self.old }
-        ensures kept { AreKept (J.judged judge.now) (J.holds judge.now) self.new }
+        requires kept { AreKeptClasses (J.judged judge.now) (J.holds judge.now) self.old }
+        ensures kept { AreKeptClasses (J.judged judge.now) (J.holds judge.now) self.new }
         ensures marked { (n : ℕ) → slice_get self.old.good.items n ≡ Some true
             → slice_get self.new.good.items n ≡ Some true }
         ensures told { (n : ℕ) → J.tells judge.now found.old n → J.tells judge.now found.new n }
@@ -114,8 +114,8 @@ impl ClassRounds {
     )
         requires ready { J.is_ready judge.now }
         requires round { IsWatched round (J.judged judge.now) }
-        requires kept { AreKept (J.judged judge.now) (J.holds judge.now) self.old }
-        ensures kept { AreKept (J.judged judge.now) (J.holds judge.now) self.new }
+        requires kept { AreKeptClasses (J.judged judge.now) (J.holds judge.now) self.old }
+        ensures kept { AreKeptClasses (J.judged judge.now) (J.holds judge.now) self.new }
         ensures marked { (n : ℕ) → slice_get self.old.good.items n ≡ Some true
             → slice_get self.new.good.items n ≡ Some true }
         ensures told { (n : ℕ) → J.tells judge.now found.old n → J.tells judge.now found.new n }
@@ -140,11 +140,11 @@ impl ClassRounds {
         requires number { number < class_count (J.judged judge.now).classes }
         requires ready { J.is_ready judge.now }
         requires round { IsWatched round (J.judged judge.now) }
-        requires kept { AreKept (J.judged judge.now) (J.holds judge.now) self.old }
+        requires kept { AreKeptClasses (J.judged judge.now) (J.holds judge.now) self.old }
         requires below { AreWalkedBelow number (J.judged judge.now) self.old.classes.items
             self.old.came.items }
         requires told { J.tells judge.now found.old number }
-        ensures kept { AreKept (J.judged judge.now) (J.holds judge.now) self.new }
+        ensures kept { AreKeptClasses (J.judged judge.now) (J.holds judge.now) self.new }
         ensures below { AreWalkedBelow (suc number) (J.judged judge.now) self.new.classes.items
             self.new.came.items }
         ensures others { (n : ℕ) → number < n
@@ -174,10 +174,10 @@ impl ClassRounds {
     )
         requires ready { J.is_ready judge.now }
         requires round { IsWatched round (J.judged judge.now) }
-        requires kept { AreKept (J.judged judge.now) (J.holds judge.now) self.old }
+        requires kept { AreKeptClasses (J.judged judge.now) (J.holds judge.now) self.old }
         requires over { AreMarkedOver looked.now self.old.good.items }
         requires told { J.tells judge.now found.old 0 }
-        ensures kept { AreKept (J.judged judge.now) (J.holds judge.now) self.new }
+        ensures kept { AreKeptClasses (J.judged judge.now) (J.holds judge.now) self.new }
         ensures walks { AreWalkedBelow (class_count (J.judged judge.now).classes)
             (J.judged judge.now) self.new.classes.items self.new.came.items }
         ensures told { J.tells judge.now found.new (class_count (J.judged judge.now).classes) }

@@ -5,7 +5,7 @@ use Rattle.std.proofs.lemmas.List.{map-set, length-set, get_or_append_left, get_
 use Rattle.std.proofs.lemmas.List.Sums.{sum_by-cons}
 use Rattle.std.proofs.lemmas.Bool.{cases_lt}
 use Rattle.schedule_pilot.specs.Agendas.{numbers_on}
-use Rattle.schedule_pilot.specs.Counts.{one_if_on, pair_sums, AreRows, IsTreeOf, top_of, position_above, with_one_less, CountsUpFrom, AreLowered, sum_before, IsCountedAt}
+use Rattle.schedule_pilot.specs.Counts.{one_if_on, pair_sums, AreSumRows, IsTreeOf, last_row, position_above, with_one_less, CountsUpFrom, AreLowered, sum_before, IsCountedAt}
 
 -- twice and half
 abbrev double : ℕ → ℕ
@@ -126,7 +126,7 @@ covered (a ∷ b ∷ row) (suc zero) = omega arith
 covered (a ∷ b ∷ row) (suc (suc i)) = covered row i
 
 -- the way up from a number that isn't 0 meets none
-pub counts_up : (lowest : List ℕ) (rows : List (List ℕ)) (i : ℕ) → AreRows lowest rows → 1 ≤ get_or lowest i 0 → CountsUpFrom i rows
+pub counts_up : (lowest : List ℕ) (rows : List (List ℕ)) (i : ℕ) → AreSumRows lowest rows → 1 ≤ get_or lowest i 0 → CountsUpFrom i rows
 counts_up lowest rows i are some zero less = subst (λ (row : List ℕ). 1 ≤ get_or row i 0) (sym are.lowest_is) some
 counts_up lowest rows i are some (suc j) less =
     let here : 1 ≤ get_or (get_or rows j []) (position_above i j) 0 = counts_up lowest rows i are some j (omega arith) in
@@ -136,8 +136,8 @@ counts_up lowest rows i are some (suc j) less =
     subst (λ (row : List ℕ). 1 ≤ get_or row (position_above i j / 2) 0) (sym (are.above j less)) there
 
 -- one row more
-pub rows_next : (lowest : List ℕ) (rows next : List (List ℕ)) (row : List ℕ) → AreRows lowest rows → row ≡ pair_sums (top_of rows) → next ≡ rows ++ row ∷ [] → AreRows lowest next
-rows_next lowest rows next row are is next_is = subst (AreRows lowest) (sym next_is) (record {
+pub rows_next : (lowest : List ℕ) (rows next : List (List ℕ)) (row : List ℕ) → AreSumRows lowest rows → row ≡ pair_sums (last_row rows) → next ≡ rows ++ row ∷ [] → AreSumRows lowest next
+rows_next lowest rows next row are is next_is = subst (AreSumRows lowest) (sym next_is) (record {
   some = let count = length-append rows (row ∷ []) in let some = are.some in omega arith;
   lowest_is = let some : 0 < length rows = are.some in get_or_append_left rows (row ∷ []) [] 0 some ∙ are.lowest_is;
   above = rise;
@@ -156,17 +156,17 @@ rows_next lowest rows next row are is next_is = subst (AreRows lowest) (sym next
         ]
 
 -- the top of one row more
-pub top_next : (rows next : List (List ℕ)) (row : List ℕ) → next ≡ rows ++ row ∷ [] → top_of next ≡ row
+pub top_next : (rows next : List (List ℕ)) (row : List ℕ) → next ≡ rows ++ row ∷ [] → last_row next ≡ row
 top_next rows next row is =
-    ap top_of is ∙ (let count : length rows ≡ length (rows ++ row ∷ []) - 1 = (let l = length-append rows (row ∷ []) in omega arith) in get_or_push rows row [] (length (rows ++ row ∷ []) - 1) count)
+    ap last_row is ∙ (let count : length rows ≡ length (rows ++ row ∷ []) - 1 = (let l = length-append rows (row ∷ []) in omega arith) in get_or_push rows row [] (length (rows ++ row ∷ []) - 1) count)
 
 -- all rows add up to the same
-pub row_sum : (lowest : List ℕ) (rows : List (List ℕ)) (j : ℕ) → AreRows lowest rows → j < length rows → sum (get_or rows j []) ≡ sum lowest
+pub row_sum : (lowest : List ℕ) (rows : List (List ℕ)) (j : ℕ) → AreSumRows lowest rows → j < length rows → sum (get_or rows j []) ≡ sum lowest
 row_sum lowest rows zero are less = ap (λ (row : List ℕ). sum row) are.lowest_is
 row_sum lowest rows (suc j) are less =
     ap (λ (row : List ℕ). sum row) (are.above j less) ∙ same_sum (get_or rows j []) ∙ row_sum lowest rows j are (omega arith)
 
-pub top_sum : (lowest : List ℕ) (rows : List (List ℕ)) → AreRows lowest rows → sum (top_of rows) ≡ sum lowest
+pub top_sum : (lowest : List ℕ) (rows : List (List ℕ)) → AreSumRows lowest rows → sum (last_row rows) ≡ sum lowest
 top_sum lowest rows are = let some = are.some in row_sum lowest rows (length rows - 1) are (omega arith)
 
 -- the flags that are on
@@ -205,8 +205,8 @@ pub kth_is : (flags : List Bool) (k i rest : ℕ) → IsCountedAt (map one_if_on
 kth_is flags k i rest at = let e : 0 + i ≡ i = omega arith in kth_from 0 flags k i rest at.before at.here ∙ ap (λ m. Some m) e
 
 -- what the top of a tree counts
-pub top_is : (flags : List Bool) (rows : List (List ℕ)) → IsTreeOf flags rows → get_or (top_of rows) 0 0 ≡ length (numbers_on 0 flags)
-top_is flags rows tree = sym (one_sum (top_of rows) tree.top) ∙ top_sum (map one_if_on flags) rows tree.rows_are ∙ sum_ones 0 flags
+pub top_is : (flags : List Bool) (rows : List (List ℕ)) → IsTreeOf flags rows → get_or (last_row rows) 0 0 ≡ length (numbers_on 0 flags)
+top_is flags rows tree = sym (one_sum (last_row rows) tree.top) ∙ top_sum (map one_if_on flags) rows tree.rows_are ∙ sum_ones 0 flags
 
 -- a whole row of one number counts all
 pub top_counts : (row : List ℕ) (k : ℕ) → length row ≤ 1 → k < sum row → IsCountedAt row k 0 k
@@ -259,8 +259,8 @@ module _ (flags : List Bool) (i : ℕ) (on : slice_get flags i ≡ Some true) (o
         let count = lowered.count in
         let some = tree.rows_are.some in
         let last : length old - 1 < length old = omega arith in
-        let there : top_of new ≡ with_one_less (position_above i (length old - 1)) (top_of old) = ap (λ n. get_or new (n - 1) []) count ∙ lowered.below (length old - 1) last in
-        let same : length (top_of new) ≡ length (top_of old) = ap (λ (row : List ℕ). length row) there ∙ length-set (top_of old) (position_above i (length old - 1)) _ in
+        let there : last_row new ≡ with_one_less (position_above i (length old - 1)) (last_row old) = ap (λ n. get_or new (n - 1) []) count ∙ lowered.below (length old - 1) last in
+        let same : length (last_row new) ≡ length (last_row old) = ap (λ (row : List ℕ). length row) there ∙ length-set (last_row old) (position_above i (length old - 1)) _ in
         let top = tree.top in
         omega arith;
   }

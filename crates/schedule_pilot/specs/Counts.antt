@@ -12,19 +12,19 @@ pair_sums (a ∷ []) = a ∷ []
 pair_sums (a ∷ b ∷ row) = (a + b) ∷ pair_sums row
 
 -- rows above a lowest one, each with the sums of neighbours in the row below it
-pub record AreRows (lowest : List ℕ) (rows : List (List ℕ)) : Type 0 where
+pub record AreSumRows (lowest : List ℕ) (rows : List (List ℕ)) : Type 0 where
   pub some : 1 ≤ length rows
   pub lowest_is : slice_index_or rows 0 [] ≡ lowest
   pub above : (j : ℕ) → suc j < length rows → slice_index_or rows (suc j) [] ≡ pair_sums (slice_index_or rows j [])
 
 -- the last of the rows
-abbrev pub top_of : List (List ℕ) → List ℕ
-top_of rows = slice_index_or rows (length rows - 1) []
+abbrev pub last_row : List (List ℕ) → List ℕ
+last_row rows = slice_index_or rows (length rows - 1) []
 
 -- rows above the flags, up to one that has at most one number
 pub record IsTreeOf (flags : List Bool) (rows : List (List ℕ)) : Type 0 where
-  pub rows_are : AreRows (map one_if_on flags) rows
-  pub top : length (top_of rows) ≤ 1
+  pub rows_are : AreSumRows (map one_if_on flags) rows
+  pub top : length (last_row rows) ≤ 1
 
 -- where the way up from a position comes to, so many rows above
 abbrev pub position_above : ℕ → ℕ → ℕ

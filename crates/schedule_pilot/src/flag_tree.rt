@@ -1,7 +1,7 @@
 //! Flags in a row with a tree of counts above them: how many are on, and which of them is the k-th.
 ghost use Rattle.std.specs.Prelude.{◌≡◌, ℕ, suc, ◌+◌, ◌<◌, ◌≤◌, ◌^◌, ◌++◌, ◌∷◌, [], true, false, length, map, sum, Some, slice_get, slice_set, slice_index, slice_index_or, IfOk, OnOk};
 ghost use Rattle.schedule_pilot.specs.Agendas.{numbers_on};
-ghost use Rattle.schedule_pilot.specs.Counts.{one_if_on, pair_sums, AreRows, IsTreeOf, top_of, with_one_less, CountsUpFrom, AreLowered, IsCountedAt};
+ghost use Rattle.schedule_pilot.specs.Counts.{one_if_on, pair_sums, AreSumRows, IsTreeOf, last_row, with_one_less, CountsUpFrom, AreLowered, IsCountedAt};
 
 use net_base::Memory;
 use std::alloc::Global;
@@ -58,7 +58,7 @@ impl Rows {
     /// The last row.
     fn top(&self) -> &[usize]
         requires { 1 ≤ length self.now }
-        ensures { result.now ≡ top_of self.now }
+        ensures { result.now ≡ last_row self.now }
     {
         self.row(self.count() - 1)
     }
@@ -132,8 +132,8 @@ fn ones_of(alloc: Global, flags: &[bool]) -> Result<Vec<usize>, Memory>
 /// The rows above a lowest one, up to one that has at most one number.
 fn rows_above(alloc: Global, lowest: Vec<usize>) -> Result<Rows, Memory>
     requires { sum lowest.items < 2 ^ 64 }
-    ensures rows { IfOk result (λ r. AreRows lowest.items r) }
-    ensures top { IfOk result (λ r. length (top_of r) ≤ 1) }
+    ensures rows { IfOk result (λ r. AreSumRows lowest.items r) }
+    ensures top { IfOk result (λ r. length (last_row r) ≤ 1) }
 {
     let mut rows = Rows::new(alloc);
     rows.push(lowest)?;
@@ -158,13 +158,13 @@ fn lower_up(rows: &mut Rows, i: usize)
 
 /// A position of a row, and which of what is counted there is meant.
 #[derive(Clone, Copy)]
-struct Spot {
+struct CountedAt {
     position: usize,
     rest: usize,
 }
 
 /// What a position of the sums of neighbours counts, in the row of the neighbours.
-fn spot_below(row: &[usize], spot: Spot) -> Spot
+fn spot_below(row: &[usize], spot: CountedAt) -> CountedAt
     requires { spot.rest < slice_index (pair_sums row.now) spot.position }
     ensures { (k : ℕ) → IsCountedAt (pair_sums row.now) k spot.position spot.rest
         → IsCountedAt row.now k result.position result.rest }
@@ -172,12 +172,12 @@ fn spot_below(row: &[usize], spot: Spot) -> Spot
     let position = 2 * spot.position;
     let first = row[position];
     if spot.rest < first {
-        Spot {
+        CountedAt {
             position,
             rest: spot.rest,
         }
     } else {
-        Spot {
+        CountedAt {
             position: position + 1,
             rest: spot.rest - first,
         }
@@ -187,12 +187,12 @@ fn spot_below(row: &[usize], spot: Spot) -> Spot
 /// The position in the lowest row where number k of what the rows count is counted.
 fn position_of(rows: &Rows, k: usize) -> usize
     requires some { 1 ≤ length rows.now }
-    requires top { IsCountedAt (top_of rows.now) k 0 k }
+    requires top { IsCountedAt (last_row rows.now) k 0 k }
     requires above { (j : ℕ) → suc j < length rows.now
         → slice_index_or rows.now (suc j) [] ≡ pair_sums (slice_index_or rows.now j []) }
     ensures { (rest : ℕ) × IsCountedAt (slice_index_or rows.now 0 []) k result rest }
 {
-    let mut spot = Spot {
+    let mut spot = CountedAt {
         position: 0,
         rest: k,
     };

@@ -1,17 +1,17 @@
 use Rattle.std.proofs.Common.{◌≡◌, ◌∙◌, ℕ, Bool, List, length, map, sum, ap, sym, subst, arith}
 use Rattle.std.specs.Prelude.{slice_get}
 use Rattle.schedule_pilot.specs.Agendas.{numbers_on}
-use Rattle.schedule_pilot.specs.Counts.{one_if_on, top_of, IsCountedAt}
+use Rattle.schedule_pilot.specs.Counts.{one_if_on, last_row, IsCountedAt}
 use Rattle.schedule_pilot.proofs.CountLaws.{top_counts, top_sum, sum_ones, kth_is}
 use Rattle.schedule_pilot.proofs.flag_tree.FlagTree.kth.Goals as goal
 
 pub position_of-requires-clause-top : goal.position_of-requires-clause-top
 position_of-requires-clause-top c =
     let flags = c.self.inside.flags.items in
-    let all : sum (top_of c.self.inside.rows) ≡ length (numbers_on 0 c.args.self.now) =
+    let all : sum (last_row c.self.inside.rows) ≡ length (numbers_on 0 c.args.self.now) =
     top_sum (map one_if_on flags) c.self.inside.rows c.self.invariant.rows_are ∙ sum_ones 0 flags ∙ ap (λ (l : List Bool). length (numbers_on 0 l)) c.self.view_is in
     let less = c.requires in
-    top_counts (top_of c.self.inside.rows) c.args.k c.self.invariant.top (omega arith)
+    top_counts (last_row c.self.inside.rows) c.args.k c.self.invariant.top (omega arith)
 
 pub returns : goal.returns
 returns c =
