@@ -30,14 +30,7 @@ each_single c P here there s =
       | inr ne ↦ subst (P s) (sym (changes_there c s ne)) (there s ne)
     ]
 
--- no change is tried: the switches are prepared for those that are taken, of which there is none
-pub ready_settled : (net : Network) (p : PreparedState) → IsBetweenTrials net p → AreReady net p.round p
-ready_settled net p settled = record {
-  fit = settled.fit;
-  each = λ s less. subst (λ (cs : List Change). IsMixed (rules_there p.tables s) (changes_at s cs) (mix_at p.mixes s)) (sym settled.none) (settled.alone s less);
-}
-
--- and where none is taken, no change is tried
+-- where none is taken and the switches are ready, no change is tried
 pub settled_ready : (net : Network) (p : PreparedState) → p.round ≡ [] → AreReady net p.round p → IsBetweenTrials net p
 settled_ready net p none ready = record {
   none = none;
