@@ -81,8 +81,8 @@ fn drives_alike(rt: &impl Abort, alloc: Global, files: &UpdateFiles, plan: &Plan
 {
     certified_begins_safely(&files.net, &files.old, &files.new, &files.demands, plan);
     assert!(rt; are_entries(&files.net, &ENTRIES));
-    let pilot =
-        Pilot::new(move |step: u64, count| start.wrapping_add(step.wrapping_mul(7)) % count);
+    let pilot = Pilot::new(move |step: u64, count| start.wrapping_add(step.wrapping_mul(7))
+        % count);
     let first = begun(rt, alloc, files, plan);
     let plain = drive(alloc, first, &pilot, &ENTRIES, 1000).expect(rt, "a run");
     let second = begun(rt, alloc, files, plan);
