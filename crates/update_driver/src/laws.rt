@@ -1,9 +1,11 @@
 //! What holds of every driver that comes about by calls. Each law is a function that does nothing: its contract is the law.
-ghost use Rattle.std.specs.Prelude.{◌≡◌, ◌<◌, ◌++◌, ℕ, List, length};
+ghost use Rattle.std.specs.Prelude.{◌≡◌, ◌<◌, ◌++◌, ℕ, List, length, map};
 ghost use Rattle.std.specs.List.{AllByRecursion};
 ghost use Rattle.net_base.specs.declared.ids.SwitchId.{SwitchId};
 ghost use Rattle.topology.specs.Networks.{Network, switch_count};
 ghost use Rattle.update_model.specs.declared.Change.{Change};
+ghost use Rattle.two_way_driver.specs.Laws as two_way;
+ghost use Rattle.update_driver.specs.Agreement.{two_way_call, Agree};
 ghost use Rattle.update_driver.specs.Drivers.{DriverState, driver_after_bytes};
 ghost use Rattle.update_driver.specs.Calls.{Call, IsCall, AreDrivable, after_call, bytes_from, byte_by_byte, driver_after};
 ghost use Rattle.update_driver.specs.Laws.{BeginsAnswered, LogIsRun, SendsOnly, WaitsForBarriers};
@@ -44,4 +46,14 @@ pub fn only_replies_and_messages_are_sent()
         → AreDrivable net rounds
         → AllByRecursion (IsCall net) calls → s.0 < switch_count net
         → SendsOnly net rounds (bytes_from s calls) (driver_after net rounds calls) s }
+{}
+
+/// The driver that can turn back does the same, as long as it isn't turned and no session is opened again: over the same starts
+/// and the same bytes both send the same to each switch, log the same events, and refuse the same starts.
+pub fn both_drivers_agree()
+    ensures { (net : Network) (rounds inverses : List (List Change)) (calls : List Call)
+        → AreDrivable net rounds
+        → AllByRecursion (IsCall net) calls
+        → Agree net rounds (driver_after net rounds calls)
+        (two_way.driver_after net rounds inverses (map two_way_call calls)) }
 {}

@@ -1,9 +1,8 @@
 //! The core of a controller that is never turned back: what it sends to each switch, and the log of events that it makes of what
 //! comes. It has no connections and no clock: bytes are handed in and out. It does what the driver that can turn back does as
-//! long as that isn't turned (`agreement`), keeps all that it sent, and is as before where memory is wanting.
+//! long as that isn't turned (`both_drivers_agree`), keeps all that it sent, and is as before where memory is wanting.
 #![tactic(auto)]
 
-pub mod agreement;
 mod drivers;
 pub mod laws;
 mod starts;

@@ -3,7 +3,7 @@ ghost use Rattle.std.specs.Prelude.{◌≡◌, ℕ, ◌<◌, ◌≤◌, ◌+◌,
 ghost use Rattle.std.specs.List.{AllByRecursion, list_all, range_with_len};
 ghost use Rattle.topology.specs.Networks.{switch_count};
 ghost use Rattle.update_model.specs.Ranges.{IsPlanChange};
-ghost use Rattle.update_model.specs.States.{phase_after_settle, settled_count};
+ghost use Rattle.update_model.specs.States.{phase_after_settle};
 ghost use Rattle.update_model.specs.Worlds.{running_round};
 ghost use Rattle.update_driver.specs.Laws.{begun_count};
 ghost use Rattle.net_base.specs.Switches.{has, most_switches};
@@ -99,24 +99,16 @@ fn settled(phase: Phase) -> Phase
     }
 }
 
-/// How many rounds are settled.
-fn settled_of(phase: Phase) -> u32
-    ensures value { result ≡ settled_count phase }
-    ensures most { result ≤ begun_count phase }
-{
-    match phase {
-        Phase::Settled(k) => k,
-        Phase::Running(k) if k > 0 => k - 1,
-        Phase::Running(_) => 0,
-    }
-}
-
 /// The phase after the next round starts.
 fn started(phase: Phase) -> Phase
     requires { begun_count phase + 1 < 2 ^ 32 }
     ensures { result ≡ started_phase phase }
 {
-    Phase::Running(settled_of(phase) + 1)
+    match phase {
+        Phase::Settled(k) => Phase::Running(k + 1),
+        Phase::Running(k) if k > 0 => Phase::Running(k),
+        Phase::Running(_) => Phase::Running(1),
+    }
 }
 
 /// Settles the running round, if no barrier is outstanding. There is room for an event.
