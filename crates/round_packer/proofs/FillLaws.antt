@@ -16,7 +16,7 @@ use Rattle.mixed_walks.specs.Walks.{TablesKeepVlans}
 use Rattle.table_difference.specs.Targets.{Target}
 use Rattle.law_packed_rounds.specs.Packing.{CanStand, IsFilled}
 use Rattle.round_tables.specs.PreparedTables.{PreparedState}
-use Rattle.round_tables.specs.Filling.{AreTaken, FitTables}
+use Rattle.round_tables.specs.Filling.{AreTakenChanges, FitTables}
 use Rattle.round_judge.specs.Goals.{HasAtoms}
 use Rattle.round_packer.specs.declared.failing.Failure.{Failure}
 use Rattle.round_packer.specs.Kept.{AreKept, ArePreparedFor, IsFailing, IsFailureOf}
@@ -31,7 +31,7 @@ prepared_here net mixes tables round rules keeps loaded = record { net_is = refl
 
 module _ (to : Target) (tables : List (List Rule)) (round : List Change) (p : PreparedState) (came : List ℕ) (looked : List Bool) (at : IsFilling to tables round p came looked) where
   -- the same tables with other changes taken
-  pub filling_with : (next : List Change) (q : PreparedState) → AreTaken to.net q → rules_of_all q.tables ≡ rules_of_all p.tables → q.round ≡ next → AllByRecursion (λ c. KeepsVlan (rule_of c).action) next
+  pub filling_with : (next : List Change) (q : PreparedState) → AreTakenChanges to.net q → rules_of_all q.tables ≡ rules_of_all p.tables → q.round ≡ next → AllByRecursion (λ c. KeepsVlan (rule_of c).action) next
       → (new : List ℕ) → AreKept to tables next new → (marks : List Bool) → HasAtoms to.classes marks → IsFilling to tables next q new marks
   filling_with next q trial same is keeps new kept marks atoms = record {
     taken = trial;
@@ -56,7 +56,7 @@ module _ (to : Target) (tables : List (List Rule)) (round : List Change) (p : Pr
         (subst (λ (cs : List Change). AreLoaded (one_round_of to.net (rules_of_all q.tables) cs) 0 mixes) is loaded))
 
     -- it doesn't fit the tables
-    pub tried_unfit : (q : PreparedState) → AreTaken to.net q → rules_of_all q.tables ≡ rules_of_all p.tables → q.round ≡ p.round → ¬ FitTables to.net (rules_of_all p.tables) (p.round ++ c ∷ []) → IsTried to tables round c q came looked
+    pub tried_unfit : (q : PreparedState) → AreTakenChanges to.net q → rules_of_all q.tables ≡ rules_of_all p.tables → q.round ≡ p.round → ¬ FitTables to.net (rules_of_all p.tables) (p.round ++ c ∷ []) → IsTried to tables round c q came looked
     tried_unfit q trial same is never =
         let none : ¬ FitTables to.net tables (round ++ c ∷ []) =
         subst (λ (ts : List (List Rule)). ¬ FitTables to.net ts (round ++ c ∷ [])) at.tables_are (subst (λ (cs : List Change). ¬ FitTables to.net (rules_of_all p.tables) (cs ++ c ∷ [])) at.round_is never) in
@@ -66,7 +66,7 @@ module _ (to : Target) (tables : List (List Rule)) (round : List Change) (p : Pr
         )
 
     -- it can stand
-    pub tried_taken : (q : PreparedState) → AreTaken to.net q → rules_of_all q.tables ≡ rules_of_all p.tables → q.round ≡ p.round ++ c ∷ [] → (new : List ℕ) → AreKept to tables (round ++ c ∷ []) new
+    pub tried_taken : (q : PreparedState) → AreTakenChanges to.net q → rules_of_all q.tables ≡ rules_of_all p.tables → q.round ≡ p.round ++ c ∷ [] → (new : List ℕ) → AreKept to tables (round ++ c ∷ []) new
         → (marks : List Bool) → HasAtoms to.classes marks → IsTried to tables round c q new marks
     tried_taken q trial same is new kept marks atoms =
         let taken : q.round ≡ round ++ c ∷ [] = is ∙ ap (λ (cs : List Change). cs ++ c ∷ []) at.round_is in
@@ -78,7 +78,7 @@ module _ (to : Target) (tables : List (List Rule)) (round : List Change) (p : Pr
         )
 
     -- it fails for a class
-    pub tried_failed : (q : PreparedState) → AreTaken to.net q → rules_of_all q.tables ≡ rules_of_all p.tables → q.round ≡ round → (f : Failure) → IsFailureOf to tables (round ++ c ∷ []) c f → (new : List ℕ) → AreKept to tables round new
+    pub tried_failed : (q : PreparedState) → AreTakenChanges to.net q → rules_of_all q.tables ≡ rules_of_all p.tables → q.round ≡ round → (f : Failure) → IsFailureOf to tables (round ++ c ∷ []) c f → (new : List ℕ) → AreKept to tables round new
         → (marks : List Bool) → HasAtoms to.classes marks → IsTried to tables round c q new marks
     tried_failed q trial same is f (of_it, fails) new kept marks atoms =
         inr (λ can. fails.never (can.safe fails.number f.class fails.is_class), filling_with round q trial same is at.changes new kept marks atoms)

@@ -25,7 +25,7 @@ use Rattle.table_difference.specs.Targets.{Target}
 use Rattle.law_packed_rounds.specs.Packing.{CanStand, IsFilled, IsPackedRound, ArePacked, PacksOrdered, PacksStuck, tables_past}
 use Rattle.law_packed_rounds.proofs.Packed.{packed_part, part_made, some_more}
 use Rattle.round_tables.specs.PreparedTables.{PreparedState}
-use Rattle.round_tables.specs.Filling.{AreTaken}
+use Rattle.round_tables.specs.Filling.{AreTakenChanges}
 use Rattle.round_tables.proofs.StepLaws.{count_rules}
 use Rattle.round_judge.specs.Goals.{HasAtoms}
 use Rattle.update_model.proofs.HeldLaws.{each_tables_after}
@@ -86,7 +86,7 @@ module _ (to : Target) (new_unique : AllUnique to.new) (old : List (List Rule)) 
   some_taken some none = some (filled.filling.round_is ∙ none)
 
   -- the round is made
-  pub packed_next : q.round ≢ [] → (t : PreparedState) → AreTaken to.net t → rules_of_all t.tables ≡ tables_after q.round (rules_of_all q.tables) → t.round ≡ [] → (all : List (List Change)) → all ≡ rounds ++ q.round ∷ []
+  pub packed_next : q.round ≢ [] → (t : PreparedState) → AreTakenChanges to.net t → rules_of_all t.tables ≡ tables_after q.round (rules_of_all q.tables) → t.round ≡ [] → (all : List (List Change)) → all ≡ rounds ++ q.round ∷ []
       → IsPackedTo to old all t now marks
   packed_next some t trial tables_are none all all_is =
       let made = part_made to.new new_unique tables at.unique round (packed_part to tables round filled.filled) in
@@ -181,7 +181,7 @@ module _ (to : Target) (old : List (List Rule)) (rounds : List (List Change)) (p
   filled_left q now marks = subst (λ (cs : List Change). IsFilledBy to (tables_past rounds old) [] cs q now marks) left_remains
 
 -- before the first round
-pub packed_first : (to : Target) (p : PreparedState) (came : List ℕ) (looked : List Bool) → AreTaken to.net p → p.round ≡ [] → IsUserConfig to.net (rules_of_all p.tables) → AreKept to (rules_of_all p.tables) [] came
+pub packed_first : (to : Target) (p : PreparedState) (came : List ℕ) (looked : List Bool) → AreTakenChanges to.net p → p.round ≡ [] → IsUserConfig to.net (rules_of_all p.tables) → AreKept to (rules_of_all p.tables) [] came
     → HasAtoms to.classes looked → (rounds : List (List Change)) → rounds ≡ [] → IsPackedTo to (rules_of_all p.tables) rounds p came looked
 packed_first to p came looked trial none user kept atoms rounds is =
     subst (λ (rs : List (List Change)). IsPackedTo to (rules_of_all p.tables) rs p came looked) (sym is)

@@ -13,7 +13,7 @@ use Rattle.mixed_walks.specs.Walks.{TablesKeepVlans}
 use Rattle.table_difference.specs.Targets.{Target}
 use Rattle.law_packed_rounds.specs.Packing.{CanStand, IsFilled, ArePacked, PacksOrdered, PacksStuck, tables_past}
 use Rattle.round_tables.specs.PreparedTables.{PreparedState}
-use Rattle.round_tables.specs.Filling.{AreTaken}
+use Rattle.round_tables.specs.Filling.{AreTakenChanges}
 use Rattle.round_judge.specs.Goals.{HasAtoms}
 use Rattle.round_packer.specs.declared.failing.Failure.{Failure}
 use Rattle.round_packer.specs.Kept.{AreKept, IsFailing}
@@ -25,7 +25,7 @@ pub record IsPlain (net : Network) (c : Change) : Type 0 where
 
 -- the changes that are taken over the tables can be a round, and the switches that packets of each class come to then are known
 pub record IsFilling (to : Target) (tables : List (List Rule)) (round : List Change) (trial : PreparedState) (came : List ℕ) (looked : List Bool) : Type 0 where
-  pub taken : AreTaken to.net trial
+  pub taken : AreTakenChanges to.net trial
   pub tables_are : rules_of_all trial.tables ≡ tables
   pub round_is : trial.round ≡ round
   pub rules : TablesKeepVlans tables

@@ -7,7 +7,7 @@ ghost use Rattle.dest_classes.specs.Classes.{class_count};
 ghost use Rattle.update_model.specs.Changes.{tables_after};
 ghost use Rattle.update_model.specs.Remaining.{remaining_changes};
 ghost use Rattle.table_difference.specs.Targets.{Target};
-ghost use Rattle.round_tables.specs.Filling.{AreTaken};
+ghost use Rattle.round_tables.specs.Filling.{AreTakenChanges};
 ghost use Rattle.round_judge.specs.Goals.{HasAtoms};
 ghost use Rattle.round_packer.specs.Filling.{EndsAt, IsPackedTo};
 ghost use Rattle.round_packer.specs.Ends.{IsPacking};
@@ -32,13 +32,13 @@ fn keep_round(
     trial: &mut PreparedTables,
     rounds: &mut Rounds,
 ) -> Result<(), Memory>
-    requires { AreTaken goal.now.net trial.old }
+    requires { AreTakenChanges goal.now.net trial.old }
     ensures rounds { OnOk result (rounds.new ≡ rounds.old ++ trial.old.round ∷ []) }
     ensures tables { OnOk result
         (rules_of_all trial.new.tables
         ≡ tables_after trial.old.round (rules_of_all trial.old.tables)) }
     ensures none { OnOk result (trial.new.round ≡ []) }
-    ensures trial { OnOk result (AreTaken goal.now.net trial.new) }
+    ensures trial { OnOk result (AreTakenChanges goal.now.net trial.new) }
 {
     rounds.push_round(Vec::from_slice(alloc, trial.round())?)?;
     trial.make_round(goal.net)
@@ -46,7 +46,7 @@ fn keep_round(
 
 /// The changes that remain from the tables on.
 fn left_of(alloc: Global, goal: &Goal, trial: &PreparedTables) -> Result<Vec<Change>, Memory>
-    requires { AreTaken goal.now.net trial.now }
+    requires { AreTakenChanges goal.now.net trial.now }
     ensures { IfOk result (λ left. left.items
         ≡ remaining_changes (rules_of_all trial.now.tables) goal.now.new) }
 {
@@ -97,7 +97,7 @@ fn pack_from(
     looked: &mut LookedAtoms,
     rounds: &mut Rounds,
 ) -> Result<bool, Memory>
-    requires trial { AreTaken goal.now.net trial.old }
+    requires trial { AreTakenChanges goal.now.net trial.old }
     requires none { trial.old.round ≡ [] }
     requires old { IsUserConfig goal.now.net (rules_of_all trial.old.tables) }
     requires came { length watch.old.came.items ≡ class_count goal.now.classes }

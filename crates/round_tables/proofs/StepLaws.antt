@@ -20,7 +20,7 @@ use Rattle.round_mix.proofs.ClearLaws.{prepared_needed}
 use Rattle.check_reasons.specs.Loaded.{IsLoaded, AreLoaded}
 use Rattle.round_tables.specs.Trials.{HaveRoom}
 use Rattle.round_tables.specs.PreparedTables.{PreparedState, mix_at, IsMixed, rules_there}
-use Rattle.round_tables.specs.Steps.{AreReady, AreReadyBeside, HasOneMore}
+use Rattle.round_tables.specs.Steps.{AreSwitchesReady, AreReadyBeside, HasOneMore}
 use Rattle.round_tables.proofs.GrowLaws.{have_kept}
 use Rattle.round_tables.proofs.LoadLaws.{needed_few}
 
@@ -89,7 +89,7 @@ beside_lent net s cs p q old new beside rules limits lent same count others room
 
 module _ (net : Network) (cs : List Change) (p : PreparedState) where
   -- where the last one is ready too, all are
-  pub ready_last : (s : SwitchId) → AreReadyBeside net s cs p → IsMixed (rules_there p.tables s) (changes_at s cs) (mix_at p.mixes s) → AreReady net cs p
+  pub ready_last : (s : SwitchId) → AreReadyBeside net s cs p → IsMixed (rules_there p.tables s) (changes_at s cs) (mix_at p.mixes s) → AreSwitchesReady net cs p
   ready_last s beside here = record {
     fit = beside.fit;
     each = λ o less. elim (cases_eq o.0 s.0) [
@@ -99,12 +99,12 @@ module _ (net : Network) (cs : List Change) (p : PreparedState) where
   }
 
   -- all of them are, so the others are
-  pub beside_ready : (s : SwitchId) → s.0 < switch_count net → AreReady net cs p → AreReadyBeside net s cs p
+  pub beside_ready : (s : SwitchId) → s.0 < switch_count net → AreSwitchesReady net cs p → AreReadyBeside net s cs p
   beside_ready s within ready = record { fit = ready.fit; within = within; others = λ o less ne. ready.each o less }
 
   -- one of the switches has room made for it and stays prepared for its changes
-  pub ready_wider : (s : SwitchId) (q : PreparedState) → AreReady net cs p → q.tables ≡ p.tables → length q.mixes ≡ length p.mixes → length q.limits ≡ length p.limits → HaveRoom q.limits q.mixes
-      → ((o : SwitchId) → o.0 ≢ s.0 → mix_at q.mixes o ≡ mix_at p.mixes o) → IsMixed (rules_there p.tables s) (changes_at s cs) (mix_at q.mixes s) → AreReady net cs q
+  pub ready_wider : (s : SwitchId) (q : PreparedState) → AreSwitchesReady net cs p → q.tables ≡ p.tables → length q.mixes ≡ length p.mixes → length q.limits ≡ length p.limits → HaveRoom q.limits q.mixes
+      → ((o : SwitchId) → o.0 ≢ s.0 → mix_at q.mixes o ≡ mix_at p.mixes o) → IsMixed (rules_there p.tables s) (changes_at s cs) (mix_at q.mixes s) → AreSwitchesReady net cs q
   ready_wider s q ready tables mixes limits room others here = record {
     fit = record {
       tables = ap length tables ∙ ready.fit.tables;
@@ -142,7 +142,7 @@ pub capacities_few : (net : Network) → IsNetwork net → (s : SwitchId) → s.
 capacities_few net is s less = capacity_few net.capacities s.0 is.capacities
 
 -- the switches are prepared for the round of changes that fit the tables
-module _ (net : Network) (is : IsNetwork net) (cs : List Change) (p : PreparedState) (ready : AreReady net cs p)
+module _ (net : Network) (is : IsNetwork net) (cs : List Change) (p : PreparedState) (ready : AreSwitchesReady net cs p)
     (fits : (s : SwitchId) → s.0 < switch_count net → entries_needed (rules_there p.tables s) (changes_at s cs) ≤ capacity_of net s) where
   loaded_from : (s : SwitchId) (mixed : MixedState) → s.0 < switch_count net → IsMixed (rules_there p.tables s) (changes_at s cs) mixed → IsLoaded (one_round_of net (rules_of_all p.tables) cs) 0 s mixed
   loaded_from s mixed below h = go mixed.prepared refl h

@@ -13,18 +13,18 @@ use Rattle.update_model.proofs.ChangeLaws.{length-tables_after, rules_at-after_c
 use Rattle.round_mix.specs.Prepared.{MixedState}
 use Rattle.round_tables.specs.PreparedTables.{PreparedState, IsMixed, limit_at, mix_at, rules_there}
 use Rattle.round_tables.specs.Trials.{HaveRoom}
-use Rattle.round_tables.specs.Steps.{AreMixed, AreReady, AreReadyBeside, FitTable, IsBegun, with_change}
-use Rattle.round_tables.specs.Filling.{AreTaken, FitTables}
+use Rattle.round_tables.specs.Steps.{AreMixed, AreSwitchesReady, AreReadyBeside, FitTable, IsBegun, taken_and}
+use Rattle.round_tables.specs.Filling.{AreTakenChanges, FitTables}
 use Rattle.round_tables.proofs.LoadLaws.{good_mixed, clear_mixed}
 use Rattle.round_tables.proofs.StepLaws.{count_rules, ready_loaded}
 use Rattle.round_tables.proofs.FitLaws.{clear_made, each_more, fit_less, fit_more, fit_there, fits_made, more_here, more_there}
 
 -- changes that fit, with each switch prepared for them, are taken
-pub taken_of : (net : Network) → IsNetwork net → (p : PreparedState) → AreReady net p.round p → FitTables net (rules_of_all p.tables) p.round → AreTaken net p
+pub taken_of : (net : Network) → IsNetwork net → (p : PreparedState) → AreSwitchesReady net p.round p → FitTables net (rules_of_all p.tables) p.round → AreTakenChanges net p
 taken_of net is p ready fit = record { ready = ready; fit = fit; loaded = ready_loaded net is p.round p ready fit.fits }
 
 -- and stay so where neither the rules nor what is taken changes
-pub taken_again : (net : Network) → IsNetwork net → (p q : PreparedState) → AreTaken net p → rules_of_all q.tables ≡ rules_of_all p.tables → q.round ≡ p.round → AreReady net q.round q → AreTaken net q
+pub taken_again : (net : Network) → IsNetwork net → (p q : PreparedState) → AreTakenChanges net p → rules_of_all q.tables ≡ rules_of_all p.tables → q.round ≡ p.round → AreSwitchesReady net q.round q → AreTakenChanges net q
 taken_again net is p q taken rules round ready =
     taken_of net is q ready (subst (FitTables net (rules_of_all q.tables)) (sym round) (subst (λ (ts : List (List Rule)). FitTables net ts p.round) (sym rules) taken.fit))
 
@@ -66,9 +66,9 @@ module _ (c : Change) (rest : List Change) (tables : List (List Rule)) (applies 
       ])
 
 -- the changes are made: each switch is prepared for its table alone
-module _ (net : Network) (cs : List Change) (p q : PreparedState) (ready : AreReady net cs p) (fit : FitTables net (rules_of_all p.tables) cs) where
+module _ (net : Network) (cs : List Change) (p q : PreparedState) (ready : AreSwitchesReady net cs p) (fit : FitTables net (rules_of_all p.tables) cs) where
   pub ready_made : rules_of_all q.tables ≡ tables_after cs (rules_of_all p.tables) → length q.mixes ≡ length p.mixes → q.limits ≡ p.limits
-      → ((s : SwitchId) → (mix_at p.mixes s).room ≤ (mix_at q.mixes s).room) → AreMixed (switch_count net) (rules_of_all q.tables) [] q.mixes → AreReady net [] q
+      → ((s : SwitchId) → (mix_at p.mixes s).room ≤ (mix_at q.mixes s).room) → AreMixed (switch_count net) (rules_of_all q.tables) [] q.mixes → AreSwitchesReady net [] q
   ready_made made mixes limits room alone = record {
     fit = record {
       tables = sym (count_rules q.tables) ∙ ap (λ (ts : List (List Rule)). length ts) made ∙ length-tables_after cs (rules_of_all p.tables) ∙ count_rules p.tables ∙ ready.fit.tables;
@@ -84,19 +84,19 @@ module _ (net : Network) (cs : List Change) (p q : PreparedState) (ready : AreRe
 -- ---- one change is taken
 
 module _ (net : Network) (is : IsNetwork net) (c : Change) (q : PreparedState) (fit : FitTables net (rules_of_all q.tables) q.round) (begun : IsBegun net c q) where
-  here_fits : FitTable (rules_there q.tables (switch_of c)) (with_change q c) (capacity_of net (switch_of c))
+  here_fits : FitTable (rules_there q.tables (switch_of c)) (taken_and q c) (capacity_of net (switch_of c))
   here_fits = record {
-    good = good_mixed (rules_there q.tables (switch_of c)) (with_change q c) (mix_at q.mixes (switch_of c)) begun.here;
-    clear = clear_mixed (rules_there q.tables (switch_of c)) (with_change q c) (mix_at q.mixes (switch_of c)) begun.here;
+    good = good_mixed (rules_there q.tables (switch_of c)) (taken_and q c) (mix_at q.mixes (switch_of c)) begun.here;
+    clear = clear_mixed (rules_there q.tables (switch_of c)) (taken_and q c) (mix_at q.mixes (switch_of c)) begun.here;
     fits = begun.fits;
   }
 
   -- it is put behind the others
-  pub taken_more : (r : PreparedState) → r.tables ≡ q.tables → r.mixes ≡ q.mixes → r.limits ≡ q.limits → r.round ≡ q.round ++ c ∷ [] → AreTaken net r
+  pub taken_more : (r : PreparedState) → r.tables ≡ q.tables → r.mixes ≡ q.mixes → r.limits ≡ q.limits → r.round ≡ q.round ++ c ∷ [] → AreTakenChanges net r
   taken_more r tables mixes limits round =
       let next = q.round ++ c ∷ [] in
       let rules : rules_of_all r.tables ≡ rules_of_all q.tables = ap rules_of_all tables in
-      let ready : AreReady net r.round r = record {
+      let ready : AreSwitchesReady net r.round r = record {
         fit = record {
           tables = ap (λ (ts : List TableState). length ts) tables ∙ begun.beside.fit.tables;
           mixes = ap (λ (ms : List MixedState). length ms) mixes ∙ begun.beside.fit.mixes;
@@ -127,7 +127,7 @@ unfit_there net tables round c within never fit =
 
 -- ---- the last change is left
 
-module _ (net : Network) (c : Change) (round : List Change) (p mid : PreparedState) (taken : AreTaken net p) (last : p.round ≡ round ++ c ∷ []) (within : (switch_of c).0 < switch_count net)
+module _ (net : Network) (c : Change) (round : List Change) (p mid : PreparedState) (taken : AreTakenChanges net p) (last : p.round ≡ round ++ c ∷ []) (within : (switch_of c).0 < switch_count net)
     (tables : mid.tables ≡ p.tables) (mixes : mid.mixes ≡ p.mixes) (limits : mid.limits ≡ p.limits) (left : mid.round ≡ round) where
   mixed_there : (s : SwitchId) → s.0 < switch_count net → IsMixed (rules_there mid.tables s) (changes_at s (round ++ c ∷ [])) (mix_at mid.mixes s)
   mixed_there s less =
@@ -152,7 +152,7 @@ module _ (net : Network) (c : Change) (round : List Change) (p mid : PreparedSta
   }
 
   -- and its own for it too
-  pub here_left : IsMixed (rules_there mid.tables (switch_of c)) (with_change mid c) (mix_at mid.mixes (switch_of c))
+  pub here_left : IsMixed (rules_there mid.tables (switch_of c)) (taken_and mid c) (mix_at mid.mixes (switch_of c))
   here_left =
       subst (λ (cs : List Change). IsMixed (rules_there mid.tables (switch_of c)) (changes_at (switch_of c) cs ++ c ∷ []) (mix_at mid.mixes (switch_of c))) (sym left)
       (subst (λ (cs : List Change). IsMixed (rules_there mid.tables (switch_of c)) cs (mix_at mid.mixes (switch_of c))) (more_here round c) (mixed_there (switch_of c) within))

@@ -17,7 +17,7 @@ use Rattle.round_mix.proofs.TriedLaws.{clear_none}
 use Rattle.check_reasons.specs.Loaded.{AreLoaded}
 use Rattle.round_tables.specs.Trials.{HaveRoom, IsBetweenTrials, IsTrying, HasRoomAlone, single}
 use Rattle.round_tables.specs.PreparedTables.{PreparedState, mix_at, IsMixed, rules_there}
-use Rattle.round_tables.specs.Steps.{AreReady, AreReadyBeside, FitTable, IsBegun, with_change}
+use Rattle.round_tables.specs.Steps.{AreSwitchesReady, AreReadyBeside, FitTable, IsBegun, taken_and}
 use Rattle.round_tables.specs.Filling.{FitTables}
 use Rattle.round_tables.proofs.LoadLaws.{clear_mixed}
 use Rattle.round_tables.proofs.StepLaws.{changes_here, changes_there, count_rules, ready_loaded}
@@ -31,7 +31,7 @@ each_single c P here there s =
     ]
 
 -- where none is taken and the switches are ready, no change is tried
-pub settled_ready : (net : Network) (p : PreparedState) → p.round ≡ [] → AreReady net p.round p → IsBetweenTrials net p
+pub settled_ready : (net : Network) (p : PreparedState) → p.round ≡ [] → AreSwitchesReady net p.round p → IsBetweenTrials net p
 settled_ready net p none ready = record {
   none = none;
   fit = ready.fit;
@@ -39,7 +39,7 @@ settled_ready net p none ready = record {
 }
 
 -- beside no others a change is alone
-pub with_alone : (p : PreparedState) (c : Change) → p.round ≡ [] → with_change p c ≡ c ∷ []
+pub with_alone : (p : PreparedState) (c : Change) → p.round ≡ [] → taken_and p c ≡ c ∷ []
 with_alone p c none = ap (λ (cs : List Change). changes_at (switch_of c) cs ++ c ∷ []) none
 
 module _ (net : Network) (c : Change) (p : PreparedState) (none : p.round ≡ []) (begun : IsBegun net c p) where
@@ -59,7 +59,7 @@ module _ (net : Network) (c : Change) (p : PreparedState) (none : p.round ≡ []
       (λ _. subst (λ (cs : List Change). entries_needed (rules_there p.tables (switch_of c)) cs ≤ capacity_of net (switch_of c)) (with_alone p c none) begun.fits)
       (λ s ne less. let had = begun.beside.fit.fits s less in omega arith)
 
-  ready_single : AreReady net (c ∷ []) p
+  ready_single : AreSwitchesReady net (c ∷ []) p
   ready_single = record {
     fit = begun.beside.fit;
     each = each_single c (λ s cs. s.0 < switch_count net → IsMixed (rules_there p.tables s) cs (mix_at p.mixes s)) (λ _. here_alone) (λ s ne less. others_alone s less ne);
@@ -77,7 +77,7 @@ module _ (net : Network) (c : Change) (p : PreparedState) (none : p.round ≡ []
 
 -- a change that doesn't fit its table beside none has no room alone
 pub never_alone : (net : Network) (c : Change) (p : PreparedState) → p.round ≡ [] → (switch_of c).0 < switch_count net → Applies (rules_of_all p.tables) c
-    → (¬ FitTable (rules_there p.tables (switch_of c)) (with_change p c) (capacity_of net (switch_of c))) → ¬ HasRoomAlone net (rules_of_all p.tables) c
+    → (¬ FitTable (rules_there p.tables (switch_of c)) (taken_and p c) (capacity_of net (switch_of c))) → ¬ HasRoomAlone net (rules_of_all p.tables) c
 never_alone net c p none within applies never stands =
     let rules = rules_there p.tables (switch_of c) in
     never (subst (λ (cs : List Change). FitTable rules cs (capacity_of net (switch_of c))) (sym (with_alone p c none))
@@ -101,7 +101,7 @@ module _ (net : Network) (c : Change) (p : PreparedState) (trying : IsTrying net
   }
 
   -- and each switch is prepared for that
-  pub ready_tried : AreReady net (c ∷ []) p
+  pub ready_tried : AreSwitchesReady net (c ∷ []) p
   ready_tried = record {
     fit = trying.fit;
     each = λ s less.
@@ -122,7 +122,7 @@ module _ (net : Network) (c : Change) (p : PreparedState) (trying : IsTrying net
         (changes_there c o ne ∙ ap (changes_at o) (sym trying.none)) (ready_tried.each o less);
   }
 
-  pub here_tried : IsMixed (rules_there p.tables (switch_of c)) (with_change p c) (mix_at p.mixes (switch_of c))
+  pub here_tried : IsMixed (rules_there p.tables (switch_of c)) (taken_and p c) (mix_at p.mixes (switch_of c))
   here_tried =
       subst (λ (cs : List Change). IsMixed (rules_there p.tables (switch_of c)) cs (mix_at p.mixes (switch_of c))) (changes_here c ∙ sym (with_alone p c trying.none)) (ready_tried.each (switch_of c) tried_within)
 

@@ -10,7 +10,7 @@ use Rattle.update_model.specs.declared.Change.{Change}
 use Rattle.certificates.specs.Rounds.{one_round_of}
 use Rattle.check_reasons.specs.Loaded.{AreLoaded}
 use Rattle.round_tables.specs.PreparedTables.{PreparedState}
-use Rattle.round_tables.specs.Steps.{AreReady}
+use Rattle.round_tables.specs.Steps.{AreSwitchesReady}
 
 -- as far as the tables go the changes can be a round: they are a good round, each mixture is clear, and each need within capacity
 pub record FitTables (net : Network) (tables : List (List Rule)) (changes : List Change) : Type 0 where
@@ -19,7 +19,7 @@ pub record FitTables (net : Network) (tables : List (List Rule)) (changes : List
   pub fits : (s : SwitchId) → s.0 < switch_count net → need_of (one_round_of net tables changes) 0 s ≤ capacity_of net s
 
 -- the taken changes can be a round as far as the tables go, and each switch is prepared for those that are taken there, as walks want it
-pub record AreTaken (net : Network) (t : PreparedState) : Type 0 where
-  pub ready : AreReady net t.round t
+pub record AreTakenChanges (net : Network) (t : PreparedState) : Type 0 where
+  pub ready : AreSwitchesReady net t.round t
   pub fit : FitTables net (rules_of_all t.tables) t.round
   pub loaded : AreLoaded (one_round_of net (rules_of_all t.tables) t.round) 0 t.mixes

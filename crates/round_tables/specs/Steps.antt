@@ -16,7 +16,7 @@ abbrev pub AreMixed : ℕ → List (List Rule) → List Change → List MixedSta
 AreMixed n tables changes mixes = (s : SwitchId) → s.0 < n → IsMixed (rules_at tables s) (changes_at s changes) (mix_at mixes s)
 
 -- the tables fit, and each switch is prepared for those of the changes that are there
-pub record AreReady (net : Network) (changes : List Change) (t : PreparedState) : Type 0 where
+pub record AreSwitchesReady (net : Network) (changes : List Change) (t : PreparedState) : Type 0 where
   pub fit : Fit net t
   pub each : AreMixed (switch_count net) (rules_of_all t.tables) changes t.mixes
 
@@ -37,11 +37,11 @@ pub record FitTable (rules : List Rule) (changes : List Change) (capacity : ℕ)
   pub fits : entries_needed rules changes ≤ capacity
 
 -- the changes that are taken at the switch of a change, and that one behind them
-abbrev pub with_change : PreparedState → Change → List Change
-with_change t c = changes_at (switch_of c) t.round ++ c ∷ []
+abbrev pub taken_and : PreparedState → Change → List Change
+taken_and t c = changes_at (switch_of c) t.round ++ c ∷ []
 
 -- a change is begun beside those that are taken: its switch is prepared for it too, and they fit its table together
 pub record IsBegun (net : Network) (c : Change) (t : PreparedState) : Type 0 where
   pub beside : AreReadyBeside net (switch_of c) t.round t
-  pub here : IsMixed (rules_there t.tables (switch_of c)) (with_change t c) (mix_at t.mixes (switch_of c))
-  pub fits : entries_needed (rules_there t.tables (switch_of c)) (with_change t c) ≤ capacity_of net (switch_of c)
+  pub here : IsMixed (rules_there t.tables (switch_of c)) (taken_and t c) (mix_at t.mixes (switch_of c))
+  pub fits : entries_needed (rules_there t.tables (switch_of c)) (taken_and t c) ≤ capacity_of net (switch_of c)

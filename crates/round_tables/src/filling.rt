@@ -6,8 +6,8 @@ ghost use Rattle.flow_rules.specs.Tables.{rules_of_all};
 ghost use Rattle.update_model.specs.Changes.{IsGoodRound, switch_of, tables_after};
 ghost use Rattle.update_model.specs.declared.Change.{Change as ChangeOf};
 ghost use Rattle.round_tables.specs.PreparedTables.{mix_at};
-ghost use Rattle.round_tables.specs.Steps.{AreMixed, AreReady, IsBegun};
-ghost use Rattle.round_tables.specs.Filling.{AreTaken, FitTables};
+ghost use Rattle.round_tables.specs.Steps.{AreMixed, AreSwitchesReady, IsBegun};
+ghost use Rattle.round_tables.specs.Filling.{AreTakenChanges, FitTables};
 
 use crate::prepared::PreparedTables;
 use crate::steps::make_change;
@@ -67,9 +67,9 @@ impl PreparedTables {
         ensures more { OnOk result (self.new.round ≡ self.old.round ++ change.now ∷ []) }
         ensures taken { OnOk result (IsNetwork net.now
             → FitTables net.now (rules_of_all self.old.tables) self.old.round
-            → AreTaken net.now self.new) }
+            → AreTakenChanges net.now self.new) }
         ensures same { OnErr result (self.new.round ≡ self.old.round) }
-        ensures ready { OnErr result (AreReady net.now self.new.round self.new) }
+        ensures ready { OnErr result (AreSwitchesReady net.now self.new.round self.new) }
     {
         match self.round.push(*change) {
             Ok(()) => {
@@ -89,10 +89,10 @@ impl PreparedTables {
     /// Where the switch has come to fill its room, it is prepared anew before, with twice the room. After a refusal all is as
     /// before.
     pub fn take(&mut self, alloc: Global, net: &Net, change: &Change) -> Result<bool, Memory>
-        requires taken { AreTaken net.now self.old }
+        requires taken { AreTakenChanges net.now self.old }
         requires within { (switch_of change.now).0 < switch_count net.now }
         ensures rules { rules_of_all self.new.tables ≡ rules_of_all self.old.tables }
-        ensures stands { AreTaken net.now self.new }
+        ensures stands { AreTakenChanges net.now self.new }
         ensures more { IfOk result (λ is_taken. is_taken ≡ true
             → self.new.round ≡ self.old.round ++ change.now ∷ []) }
         ensures same { IfOk result (λ is_taken. is_taken ≡ false
@@ -113,13 +113,13 @@ impl PreparedTables {
 
     /// Leaves the last of the changes that are taken. It looks at each rule of its switch once, and sorts nothing.
     pub fn leave(&mut self, net: &Net, change: &Change)
-        requires taken { AreTaken net.now self.old }
+        requires taken { AreTakenChanges net.now self.old }
         requires within { (switch_of change.now).0 < switch_count net.now }
         requires last { (round : List ChangeOf) × (self.old.round ≡ round ++ change.now ∷ []) }
         ensures rules { rules_of_all self.new.tables ≡ rules_of_all self.old.tables }
         ensures left { (round : List ChangeOf)
             → self.old.round ≡ round ++ change.now ∷ [] → self.new.round ≡ round }
-        ensures stands { AreTaken net.now self.new }
+        ensures stands { AreTakenChanges net.now self.new }
     {
         net.keeps_rules();
         let _ = self.round.pop();
@@ -130,11 +130,11 @@ impl PreparedTables {
     /// Makes the changes that are taken in the tables, and begins the next round. It looks at each rule of a switch once for
     /// each change there, and sorts nothing. After a refusal the tables and the round are lost.
     pub fn make_round(&mut self, net: &Net) -> Result<(), Memory>
-        requires { AreTaken net.now self.old }
+        requires { AreTakenChanges net.now self.old }
         ensures rules { OnOk result (rules_of_all self.new.tables
             ≡ tables_after self.old.round (rules_of_all self.old.tables)) }
         ensures none { OnOk result (self.new.round ≡ []) }
-        ensures stands { OnOk result (AreTaken net.now self.new) }
+        ensures stands { OnOk result (AreTakenChanges net.now self.new) }
     {
         net.keeps_rules();
         make_all(&mut self.tables, &mut self.mixes, &self.round)?;

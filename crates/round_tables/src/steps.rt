@@ -9,7 +9,7 @@ ghost use Rattle.update_model.specs.Mixtures.{entries_needed};
 ghost use Rattle.update_model.specs.declared.Change.{Change as ChangeOf};
 ghost use Rattle.round_mix.specs.Prepared.{AreClear, AreGood};
 ghost use Rattle.round_tables.specs.PreparedTables.{mix_at, IsMixed, rules_there};
-ghost use Rattle.round_tables.specs.Steps.{AreMixed, AreReady, AreReadyBeside, FitTable, HasOneMore, IsBegun, with_change};
+ghost use Rattle.round_tables.specs.Steps.{AreMixed, AreSwitchesReady, AreReadyBeside, FitTable, HasOneMore, IsBegun, taken_and};
 
 use crate::changed::{begin_at, give_up_at, keep_at};
 use crate::growing::widen_at;
@@ -64,11 +64,11 @@ impl PreparedTables {
     /// Has room at a switch for one entry more than it needs for the changes that are taken there. After a refusal all is as
     /// before.
     pub(crate) fn widen(&mut self, alloc: Global, net: &Net, switch: SwitchId) -> Result<(), Memory>
-        requires ready { AreReady net.now self.old.round self.old }
+        requires ready { AreSwitchesReady net.now self.old.round self.old }
         requires within { switch.0 < switch_count net.now }
         ensures rules { rules_of_all self.new.tables ≡ rules_of_all self.old.tables }
         ensures round { self.new.round ≡ self.old.round }
-        ensures ready { AreReady net.now self.new.round self.new }
+        ensures ready { AreSwitchesReady net.now self.new.round self.new }
         ensures room { OnOk result (HasOneMore (mix_at self.new.mixes switch)) }
     {
         let table = self.tables.table(switch);
@@ -85,7 +85,7 @@ impl PreparedTables {
 
     /// Prepares the switch of a change for it beside those that are taken there, if with them it is good and each mixture clear.
     fn mark(&mut self, net: &Net, change: &Change) -> bool
-        requires ready { AreReady net.now self.old.round self.old }
+        requires ready { AreSwitchesReady net.now self.old.round self.old }
         requires within { (switch_of change.now).0 < switch_count net.now }
         requires room { HasOneMore (mix_at self.old.mixes (switch_of change.now)) }
         ensures rules { rules_of_all self.new.tables ≡ rules_of_all self.old.tables }
@@ -93,13 +93,13 @@ impl PreparedTables {
         ensures beside { AreReadyBeside net.now (switch_of change.now) self.new.round self.new }
         ensures yes { result ≡ true
             → IsMixed (rules_there self.new.tables (switch_of change.now))
-            (with_change self.new change.now) (mix_at self.new.mixes (switch_of change.now)) }
+            (taken_and self.new change.now) (mix_at self.new.mixes (switch_of change.now)) }
         ensures no { result ≡ false
             → AreGood (rules_there self.new.tables (switch_of change.now))
-            (with_change self.new change.now)
+            (taken_and self.new change.now)
             → ¬ AreClear (rules_there self.new.tables (switch_of change.now))
-            (with_change self.new change.now) }
-        ensures ready { result ≡ false → AreReady net.now self.new.round self.new }
+            (taken_and self.new change.now) }
+        ensures ready { result ≡ false → AreSwitchesReady net.now self.new.round self.new }
     {
         let switch = change.switch();
         keeps_keys(self.tables.table(switch));
@@ -110,10 +110,10 @@ impl PreparedTables {
     pub(crate) fn unmark(&mut self, net: &Net, change: &Change)
         requires beside { AreReadyBeside net.now (switch_of change.now) self.old.round self.old }
         requires here { IsMixed (rules_there self.old.tables (switch_of change.now))
-            (with_change self.old change.now) (mix_at self.old.mixes (switch_of change.now)) }
+            (taken_and self.old change.now) (mix_at self.old.mixes (switch_of change.now)) }
         ensures rules { rules_of_all self.new.tables ≡ rules_of_all self.old.tables }
         ensures round { self.new.round ≡ self.old.round }
-        ensures ready { AreReady net.now self.new.round self.new }
+        ensures ready { AreSwitchesReady net.now self.new.round self.new }
     {
         let switch = change.switch();
         keeps_keys(self.tables.table(switch));
@@ -134,16 +134,16 @@ impl PreparedTables {
     /// Prepares the switch of a change, which has room for it, for it beside those that are taken there, if together they fit
     /// its table. If they don't, it is prepared for these alone.
     pub(crate) fn begin_beside(&mut self, net: &Net, change: &Change) -> bool
-        requires ready { AreReady net.now self.old.round self.old }
+        requires ready { AreSwitchesReady net.now self.old.round self.old }
         requires within { (switch_of change.now).0 < switch_count net.now }
         requires room { HasOneMore (mix_at self.old.mixes (switch_of change.now)) }
         ensures rules { rules_of_all self.new.tables ≡ rules_of_all self.old.tables }
         ensures round { self.new.round ≡ self.old.round }
         ensures yes { result ≡ true → IsBegun net.now change.now self.new }
-        ensures no { result ≡ false → AreReady net.now self.new.round self.new }
+        ensures no { result ≡ false → AreSwitchesReady net.now self.new.round self.new }
         ensures never { result ≡ false
             → ¬ FitTable (rules_there self.new.tables (switch_of change.now))
-            (with_change self.new change.now) (capacity_of net.now (switch_of change.now)) }
+            (taken_and self.new change.now) (capacity_of net.now (switch_of change.now)) }
     {
         if !self.mark(net, change) {
             return false;

@@ -3,7 +3,7 @@ ghost use Rattle.std.specs.Prelude.{◌≡◌, ◌∷◌, [], List, true, false,
 ghost use Rattle.flow_rules.specs.Tables.{rules_of_all};
 ghost use Rattle.path_walk.specs.UserConfigs.{IsUserConfig};
 ghost use Rattle.update_model.specs.Changes.{Applies, tables_after_change};
-ghost use Rattle.round_tables.specs.Filling.{AreTaken};
+ghost use Rattle.round_tables.specs.Filling.{AreTakenChanges};
 ghost use Rattle.round_tables.specs.Trials.{IsBetweenTrials, IsTrying, HasRoomAlone};
 
 use crate::alone::all_alone;
@@ -23,7 +23,7 @@ impl PreparedTables {
         requires { IsUserConfig net.now (rules_of_all config.now) }
         ensures rules { IfOk result (λ t. rules_of_all t.tables ≡ rules_of_all config.now) }
         ensures settled { IfOk result (IsBetweenTrials net.now) }
-        ensures taken { IfOk result (AreTaken net.now) }
+        ensures taken { IfOk result (AreTakenChanges net.now) }
     {
         net.keeps_rules();
         let tables = config.copy()?;

@@ -5,12 +5,12 @@ use Rattle.flow_rules.specs.declared.rules.Rule.{Rule}
 use Rattle.path_walk.specs.UserConfigs.{IsUserConfig}
 use Rattle.update_model.specs.declared.Change.{Change}
 use Rattle.table_difference.specs.Targets.{Target}
-use Rattle.round_tables.specs.Filling.{AreTaken}
+use Rattle.round_tables.specs.Filling.{AreTakenChanges}
 use Rattle.round_packer.specs.Filling.{EndsAt}
 use Rattle.round_packer.proofs.rounds.packing_of.Goals as goal
 
 pub pack_from-ended-requires-clause-trial : goal.pack_from-ended-requires-clause-trial
-pack_from-ended-requires-clause-trial c = subst (λ (n : Network). AreTaken n c.in_ok-trial.trial) (ap (λ (a : Target). a.net) c.goal.view_is) c.in_ok-trial.ensures.taken
+pack_from-ended-requires-clause-trial c = subst (λ (n : Network). AreTakenChanges n c.in_ok-trial.trial) (ap (λ (a : Target). a.net) c.goal.view_is) c.in_ok-trial.ensures.taken
 
 pub pack_from-ended-requires-clause-old : goal.pack_from-ended-requires-clause-old
 pack_from-ended-requires-clause-old c = subst (IsUserConfig c.args.goal.now.net) (sym c.in_ok-trial.ensures.rules) c.requires.old

@@ -5,7 +5,7 @@ use Rattle.flow_rules.specs.declared.rules.Rule.{Rule}
 use Rattle.update_model.specs.Changes.{changes_at}
 use Rattle.update_model.specs.declared.Change.{Change}
 use Rattle.round_tables.specs.PreparedTables.{PreparedState, IsMixed, mix_at, rules_there}
-use Rattle.round_tables.specs.Steps.{AreReady}
+use Rattle.round_tables.specs.Steps.{AreSwitchesReady}
 use Rattle.round_tables.specs.Filling.{FitTables}
 use Rattle.round_tables.proofs.FitLaws.{fit_none}
 use Rattle.round_tables.proofs.StepLaws.{count_rules}
@@ -28,7 +28,7 @@ returns-clause-taken c =
       round = c.new-4.result.items;
     } in
     let none : p.round ≡ [] = c.new-4.ensures.items in
-    let ready : AreReady net p.round p = record {
+    let ready : AreSwitchesReady net p.round p = record {
       fit = record {
         tables = sym (count_rules c.in_ok-tables.tables) ∙ ap (λ (ts : List (List Rule)). length ts) rules ∙ user.count;
         mixes = made.len;

@@ -6,7 +6,7 @@ use Rattle.flow_rules.specs.Tables.{rules_of_all}
 use Rattle.round_mix.specs.Prepared.{MixedState}
 use Rattle.round_tables.specs.PreparedTables.{PreparedState, mix_at}
 use Rattle.round_tables.specs.Trials.{IsTrying}
-use Rattle.round_tables.specs.Steps.{AreMixed, AreReady}
+use Rattle.round_tables.specs.Steps.{AreMixed, AreSwitchesReady}
 use Rattle.round_tables.proofs.TakenLaws.{ready_made}
 use Rattle.round_tables.proofs.TrialLaws.{fit_tried, ready_tried}
 use Rattle.round_tables.proofs.prepared.PreparedTables.keep.Goals as goal
@@ -28,7 +28,7 @@ returns-clause-settled c =
     let lent : old ≡ inside.mixes.items = c.deref_mut.ensures.value in
     let count = ready.fit.mixes in
     let made = c.in_ok-make_change.ensures in
-    let after : AreReady net [] q =
+    let after : AreSwitchesReady net [] q =
     ready_made net (change ∷ []) p q ready (fit_tried net change p trying) made.rules (ap length same ∙ omega arith) refl
     (λ s. let a = c.make_change.ensures.room s in let b = ap (λ (ms : List MixedState). (mix_at ms s).room) lent in let d = ap (λ (ms : List MixedState). (mix_at ms s).room) same in omega arith)
     (subst (AreMixed n (rules_of_all q.tables) []) (sym same)

@@ -3,7 +3,7 @@ use Rattle.std.specs.Vec.{with_items}
 use Rattle.std.proofs.lemmas.List.{with_items_is}
 use Rattle.round_mix.specs.Prepared.{MixedState}
 use Rattle.round_tables.specs.PreparedTables.{PreparedState}
-use Rattle.round_tables.specs.Filling.{AreTaken}
+use Rattle.round_tables.specs.Filling.{AreTakenChanges}
 use Rattle.round_tables.proofs.TakenLaws.{fit_left, popped, taken_of}
 use Rattle.round_tables.proofs.prepared.PreparedTables.leave.Goals as goal
 
@@ -26,11 +26,11 @@ returns-clause-stands c =
     let (round, last) = c.requires.last in
     let had : before.round.items ≡ p.round = ap (λ (t : PreparedState). t.round) c.self.view_is in
     let left : c.pop.new.self.items ≡ round = c.pop.ensures.rest ∙ popped before.round.items round change before.round.len (had ∙ last) (omega arith) in
-    let taken : AreTaken net q =
+    let taken : AreTakenChanges net q =
     taken_of net c.keeps_rules.ensures q c.unmark.ensures.ready
     (fit_left net change round p mid c.requires.taken last c.requires.within (ap (λ (t : PreparedState). t.tables) c.self.view_is) (ap (λ (t : PreparedState). t.mixes) c.self.view_is)
     (ap (λ (t : PreparedState). t.limits) c.self.view_is) left q c.unmark.ensures.rules c.unmark.ensures.round) in
     let inside = c.self-2.inside in
     let same : (with_items inside.mixes c.index_at.new.mixes).items ≡ inside.mixes.items =
     with_items_is inside.mixes c.index_at.new.mixes (omega arith) ∙ c.index_at.ensures ∙ c.deref_mut.ensures.value in
-    subst (λ (ms : List MixedState). let v : PreparedState = record { tables = inside.tables; mixes = ms; touched = inside.touched.items; changes = inside.changes.items; limits = inside.limits.items; room = vec_capacity inside.rules; round = inside.round.items } in AreTaken net v) (sym same) (subst (AreTaken net) (sym c.self-2.view_is) taken)
+    subst (λ (ms : List MixedState). let v : PreparedState = record { tables = inside.tables; mixes = ms; touched = inside.touched.items; changes = inside.changes.items; limits = inside.limits.items; room = vec_capacity inside.rules; round = inside.round.items } in AreTakenChanges net v) (sym same) (subst (AreTakenChanges net) (sym c.self-2.view_is) taken)

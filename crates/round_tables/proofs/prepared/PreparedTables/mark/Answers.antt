@@ -10,7 +10,7 @@ use Rattle.update_model.specs.Changes.{changes_at, switch_of}
 use Rattle.round_mix.specs.Prepared.{AreClear, AreGood, IsPrepared, MixedState}
 use Rattle.round_mix.specs.declared.MarkedRule.{MarkedRule}
 use Rattle.round_tables.specs.PreparedTables.{PreparedState, mix_at, IsMixed, rules_there}
-use Rattle.round_tables.specs.Steps.{AreReady, AreReadyBeside, HasOneMore}
+use Rattle.round_tables.specs.Steps.{AreSwitchesReady, AreReadyBeside, HasOneMore}
 use Rattle.round_tables.proofs.StepLaws.{beside_lent, beside_ready, ready_last}
 use Rattle.round_tables.proofs.prepared.PreparedTables.mark.Goals as goal
 
@@ -28,7 +28,7 @@ returns-clause-beside c =
     let net = c.args.net.now in
     let inside = c.self.inside in
     let p : PreparedState = record { tables = inside.tables; mixes = inside.mixes.items; touched = inside.touched.items; changes = inside.changes.items; limits = inside.limits.items; room = vec_capacity inside.rules; round = inside.round.items } in
-    let ready : AreReady net inside.round.items p = subst (λ (v : PreparedState). AreReady net v.round v) (sym c.self.view_is) c.requires.ready in
+    let ready : AreSwitchesReady net inside.round.items p = subst (λ (v : PreparedState). AreSwitchesReady net v.round v) (sym c.self.view_is) c.requires.ready in
     let within : s.0 < switch_count net = subst (λ (t : SwitchId). t.0 < switch_count net) (sym c.switch-switch.ensures) c.requires.within in
     let mixes = with_items inside.mixes c.begin_at.new.mixes in
     let q : PreparedState = record { tables = inside.tables; mixes = mixes.items; touched = inside.touched.items; changes = inside.changes.items; limits = inside.limits.items; room = vec_capacity inside.rules; round = inside.round.items } in
@@ -45,7 +45,7 @@ returns-clause-yes c said =
     let net = c.args.net.now in
     let inside = c.self.inside in
     let p : PreparedState = record { tables = inside.tables; mixes = inside.mixes.items; touched = inside.touched.items; changes = inside.changes.items; limits = inside.limits.items; room = vec_capacity inside.rules; round = inside.round.items } in
-    let ready : AreReady net inside.round.items p = subst (λ (v : PreparedState). AreReady net v.round v) (sym c.self.view_is) c.requires.ready in
+    let ready : AreSwitchesReady net inside.round.items p = subst (λ (v : PreparedState). AreSwitchesReady net v.round v) (sym c.self.view_is) c.requires.ready in
     let within : s.0 < switch_count net = subst (λ (t : SwitchId). t.0 < switch_count net) (sym c.switch-switch.ensures) c.requires.within in
     let mixes = with_items inside.mixes c.begin_at.new.mixes in
     let q : PreparedState = record { tables = inside.tables; mixes = mixes.items; touched = inside.touched.items; changes = inside.changes.items; limits = inside.limits.items; room = vec_capacity inside.rules; round = inside.round.items } in
@@ -65,7 +65,7 @@ returns-clause-no c off =
     let net = c.args.net.now in
     let inside = c.self.inside in
     let p : PreparedState = record { tables = inside.tables; mixes = inside.mixes.items; touched = inside.touched.items; changes = inside.changes.items; limits = inside.limits.items; room = vec_capacity inside.rules; round = inside.round.items } in
-    let ready : AreReady net inside.round.items p = subst (λ (v : PreparedState). AreReady net v.round v) (sym c.self.view_is) c.requires.ready in
+    let ready : AreSwitchesReady net inside.round.items p = subst (λ (v : PreparedState). AreSwitchesReady net v.round v) (sym c.self.view_is) c.requires.ready in
     let within : s.0 < switch_count net = subst (λ (t : SwitchId). t.0 < switch_count net) (sym c.switch-switch.ensures) c.requires.within in
     let rules = rules_there inside.tables s in
     let cs = changes_at s inside.round.items in
@@ -81,7 +81,7 @@ returns-clause-ready c off =
     let net = c.args.net.now in
     let inside = c.self.inside in
     let p : PreparedState = record { tables = inside.tables; mixes = inside.mixes.items; touched = inside.touched.items; changes = inside.changes.items; limits = inside.limits.items; room = vec_capacity inside.rules; round = inside.round.items } in
-    let ready : AreReady net inside.round.items p = subst (λ (v : PreparedState). AreReady net v.round v) (sym c.self.view_is) c.requires.ready in
+    let ready : AreSwitchesReady net inside.round.items p = subst (λ (v : PreparedState). AreSwitchesReady net v.round v) (sym c.self.view_is) c.requires.ready in
     let within : s.0 < switch_count net = subst (λ (t : SwitchId). t.0 < switch_count net) (sym c.switch-switch.ensures) c.requires.within in
     let mixes = with_items inside.mixes c.begin_at.new.mixes in
     let q : PreparedState = record { tables = inside.tables; mixes = mixes.items; touched = inside.touched.items; changes = inside.changes.items; limits = inside.limits.items; room = vec_capacity inside.rules; round = inside.round.items } in

@@ -8,7 +8,7 @@ use Rattle.update_model.specs.Changes.{changes_at}
 use Rattle.update_model.specs.declared.Change.{Change}
 use Rattle.round_mix.specs.Prepared.{MixedState}
 use Rattle.round_tables.specs.PreparedTables.{PreparedState, mix_at, IsMixed, rules_there}
-use Rattle.round_tables.specs.Steps.{AreReady, HasOneMore}
+use Rattle.round_tables.specs.Steps.{AreSwitchesReady, HasOneMore}
 use Rattle.round_tables.specs.Trials.{HaveRoom}
 use Rattle.round_tables.proofs.StepLaws.{ready_wider}
 use Rattle.round_tables.proofs.prepared.PreparedTables.widen.Goals as goal
@@ -19,7 +19,7 @@ widen_at-requires-clause-prepared c =
     let net = c.args.net.now in
     let inside = c.self.inside in
     let p : PreparedState = record { tables = inside.tables; mixes = inside.mixes.items; touched = inside.touched.items; changes = inside.changes.items; limits = inside.limits.items; room = vec_capacity inside.rules; round = inside.round.items } in
-    let ready : AreReady net inside.round.items p = subst (λ (v : PreparedState). AreReady net v.round v) (sym c.self.view_is) c.requires.ready in
+    let ready : AreSwitchesReady net inside.round.items p = subst (λ (v : PreparedState). AreSwitchesReady net v.round v) (sym c.self.view_is) c.requires.ready in
     let here : IsMixed (rules_there inside.tables s) (changes_at s inside.round.items) (mix_at inside.mixes.items s) = ready.each s c.requires.within in
     let table = rules_get inside.tables s.0 c.table-table.result.now c.table-table.ensures in
     let changes : c.deref-2.result.now ≡ changes_at s inside.round.items = c.deref-2.ensures.value ∙ c.in_ok-changes.ensures ∙ ap (changes_at s) c.deref.ensures.value in
@@ -33,7 +33,7 @@ returns-clause-ready c =
     let net = c.args.net.now in
     let inside = c.self.inside in
     let p : PreparedState = record { tables = inside.tables; mixes = inside.mixes.items; touched = inside.touched.items; changes = inside.changes.items; limits = inside.limits.items; room = vec_capacity inside.rules; round = inside.round.items } in
-    let ready : AreReady net inside.round.items p = subst (λ (v : PreparedState). AreReady net v.round v) (sym c.self.view_is) c.requires.ready in
+    let ready : AreSwitchesReady net inside.round.items p = subst (λ (v : PreparedState). AreSwitchesReady net v.round v) (sym c.self.view_is) c.requires.ready in
     let mixes = with_items inside.mixes c.widen_at.new.mixes in
     let limits = with_items inside.limits c.widen_at.new.rooms in
     let q : PreparedState = record { tables = inside.tables; mixes = mixes.items; touched = inside.touched.items; changes = inside.changes.items; limits = limits.items; room = vec_capacity inside.rules; round = inside.round.items } in
