@@ -1,4 +1,4 @@
-use Rattle.std.proofs.Common.{◌∙◌, ◌<◌, IfSome, sym, subst, refl, inr}
+use Rattle.std.proofs.Common.{◌<◌, IfSome, sym, subst, refl, inr}
 use Rattle.std.proofs.lemmas.Result.{IfOk-weaker}
 use Rattle.dest_classes.specs.Classes.{class_count}
 use Rattle.command_base.specs.Updates.{meaning_of}

@@ -1,5 +1,5 @@
 use Rattle.certificates.specs.Updates.{rollout, task_for}
-use Rattle.std.proofs.Common.{ap, ◌∙◌, inr, rules}
+use Rattle.std.proofs.Common.{ap, inr, rules}
 use Rattle.demands.specs.Duties.{ClassDuties}
 use Rattle.certificates.specs.Certified.{classes_for}
 use Rattle.command_base.specs.Updates.{meaning_of}

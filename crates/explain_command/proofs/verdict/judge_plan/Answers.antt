@@ -1,4 +1,4 @@
-use Rattle.std.proofs.Common.{◌∙◌, sym, subst, IfSome, ◌<◌}
+use Rattle.std.proofs.Common.{sym, subst, IfSome, ◌<◌}
 use Rattle.std.proofs.lemmas.Result.{IfOk-weaker}
 use Rattle.dest_classes.specs.Classes.{ClassList, class_count}
 use Rattle.check_base.specs.ReasonLines as lines

@@ -1,6 +1,5 @@
-use Rattle.std.proofs.Common.{sym, ap, ◌∙◌, subst, refl, arith}
-use Rattle.dest_classes.specs.Classes.{ClassList, classes_of}
-use Rattle.dest_classes.specs.Numbered.{IsCauseOf}
+use Rattle.std.proofs.Common.{sym, ap, ◌∙◌, subst, refl}
+use Rattle.dest_classes.specs.Classes.{classes_of}
 use Rattle.demands.specs.OfClass.{AreCovered}
 use Rattle.command_base.specs.Updates.{meaning_of}
 use Rattle.round_planner.specs.Updates.{update_classes}
