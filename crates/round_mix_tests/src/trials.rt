@@ -109,6 +109,40 @@ fn an_insert_that_clashes_is_refused_and_what_is_prepared_stays(rt: HostRuntime)
     assert!(rt; is_refused(&rt, &net, &below));
 }
 
+/// Whether a change can be tried behind another, and what is prepared is right with both, and once each is given up.
+fn is_given_up_behind(
+    rt: &(impl Abort + AllocGlobal),
+    net: &Net,
+    first: &Change,
+    second: &Change,
+) -> bool {
+    let table = some_rules(rt);
+    assert!(rt; is_small(&table, &[]));
+    let mut mixed = Mixed::with_room(rt.alloc(), 97).expect(rt, "room");
+    assert!(rt; mixed.load(&table, &[]).is_ok());
+    mixed.index();
+    let is_begun = mixed.begin(first);
+    let is_next = mixed.begin(second);
+    let are_tried = agrees(rt, net, &mixed, &table, &[*first, *second]);
+    mixed.give_up(second);
+    let is_first = agrees(rt, net, &mixed, &table, &[*first]);
+    mixed.give_up(first);
+    is_begun && is_next && are_tried && is_first && agrees(rt, net, &mixed, &table, &[])
+}
+
+#[test]
+fn a_change_is_tried_behind_another_and_given_up_as_if_prepared_anew(rt: HostRuntime) {
+    let net = network(&rt);
+    let any = VlanTest::Any;
+    let above = insert(rule(120, any, HALF, out(4)));
+    let between = insert(rule(60, any, TEN, out(4)));
+    let gone = delete(to_second());
+    let other = replace(rule(100, any, TEN, out(3)));
+    assert!(rt; is_given_up_behind(&rt, &net, &above, &gone));
+    assert!(rt; is_given_up_behind(&rt, &net, &gone, &between));
+    assert!(rt; is_given_up_behind(&rt, &net, &other, &above));
+}
+
 /// Makes changes where they apply.
 fn make_all(rt: &impl Abort, table: &mut Table, changes: &[Change]) {
     for change in changes {
