@@ -2,7 +2,7 @@
 ghost use Rattle.std.specs.Prelude.{◌≡◌};
 ghost use Rattle.check_reasons.specs.Ranks.{number_of};
 
-use config_check::Breaks;
+use config_check::{Breaks, EndBreak};
 use net_base::SwitchId;
 
 /// Why a plan is refused. Rounds count from 1, the changes of a round from 0.
@@ -81,6 +81,16 @@ pub enum Reason {
 }
 
 impl Reason {
+    /// The reason that the first break of the old or the new configuration is.
+    pub fn of_end(end: EndBreak) -> Reason
+        ensures { result ≡ Reason.EndBreaks end.new end.breaks }
+    {
+        Reason::EndBreaks {
+            new: end.new,
+            breaks: end.breaks,
+        }
+    }
+
     /// The number of the reason, from 1 to 13: it is printed, and the first reason of a round is chosen by it.
     pub fn number(self) -> u32
         ensures { result ≡ number_of self }

@@ -1,4 +1,5 @@
 pub mod Broken
+pub mod Classed
 pub mod Ends
 pub mod Everywhere
 pub mod Met

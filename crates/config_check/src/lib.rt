@@ -1,8 +1,9 @@
-//! Paths against duties.
+//! Classes with their duties, and their paths against these.
 #![tactic(auto)]
 
 mod breaking;
 mod checking;
+mod classed;
 mod ends;
 pub mod laws;
 mod met;
@@ -10,6 +11,7 @@ mod waypoints;
 
 pub use breaking::how_broken;
 pub use checking::check_config;
+pub use classed::Classed;
 pub use ends::{EndBreak, first_end_break};
 pub use met::MetPath;
 use net_base::SwitchId;

@@ -15,7 +15,7 @@ use crate::names::PackKind;
 use crate::packing::packed_plan;
 use crate::phasing::{ordered_reply, stuck_reply, two_phase_reply};
 use command_base::{Reply, UpdateFiles, no_classes_reply};
-use judged_classes::Classed;
+use config_check::Classed;
 use law_packed_trees::laws::{trees_are_never_stuck, trees_take_few_rounds};
 use net_base::Memory;
 use plan_command::{EndsVerdict, break_reply, judge_ends};

@@ -2,7 +2,7 @@
 use Rattle.std.specs.Prelude.{◌≡◌}
 use Rattle.topology.specs.Networks.{switch_count}
 use Rattle.dest_classes.specs.Classes.{ClassList}
-use Rattle.judged_classes.specs.Classed.{AreClassed}
+use Rattle.config_check.specs.Classed.{AreClassed}
 use Rattle.certificates.specs.Updates.{Task, rollout}
 use Rattle.certificates.specs.Certified.{classes_for}
 use Rattle.certificates.specs.declared.Evidence.{Evidence}

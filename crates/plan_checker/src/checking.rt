@@ -20,7 +20,6 @@ use check_reasons::{Case, Reason, Verdict};
 use config_check::first_end_break;
 use demands::Demands;
 use flow_rules::Config;
-use judged_classes::of_end;
 use topology::Net;
 
 /// The first reason of the two configurations, if there is one: a class without a good path in the old one, or else in the
@@ -43,7 +42,7 @@ pub fn end_reason(case: &Case, room: &mut UpdateRoom) -> Option<Reason>
         &mut room.path,
     );
     if let Some(end) = first {
-        return Some(of_end(end));
+        return Some(Reason::of_end(end));
     }
     None
 }

@@ -2,7 +2,7 @@
 ghost use Rattle.std.specs.Prelude.{suc, ◌<◌, length, IfOk, IfSome, IfNone};
 ghost use Rattle.certificates.specs.Updates.{rollout};
 ghost use Rattle.certificates.specs.Certified.{classes_for};
-ghost use Rattle.judged_classes.specs.Classed.{AreClassed};
+ghost use Rattle.config_check.specs.Classed.{AreClassed};
 ghost use Rattle.check_reasons.specs.Loaded.{AreLoaded};
 ghost use Rattle.check_reasons.specs.Passed.{ChangesPass, ClassesPass, RoundsPass, IsFirstFrom};
 ghost use Rattle.check_reasons.specs.Ranks.{classes_start};
@@ -11,8 +11,8 @@ ghost use Rattle.plan_checker.specs.Checking.{EndsAreGood, EvidenceStands};
 
 use certificates::Evidence;
 use check_reasons::{Case, Reason};
+use config_check::Classed;
 use dest_classes::ClassMap;
-use judged_classes::Classed;
 use net_base::Memory;
 use ordered_check::{OrderedCase, OrderedRoom};
 use round_mix::Mixed;

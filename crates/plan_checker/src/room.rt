@@ -4,16 +4,16 @@ ghost use Rattle.topology.specs.Networks.{switch_count};
 ghost use Rattle.dest_classes.specs.Numbered.{IsCauseOf};
 ghost use Rattle.certificates.specs.Certified.{classes_for};
 ghost use Rattle.certificates.specs.Laws.{task_of};
-ghost use Rattle.judged_classes.specs.Classed.{AreClassed};
+ghost use Rattle.config_check.specs.Classed.{AreClassed};
 ghost use Rattle.plan_checker.specs.Fits.{Fits, FitsPlan};
 
 use crate::evidence_room::EvidenceRoom;
 use crate::prefixes::prefixes_of;
 use certificates::Plan;
+use config_check::Classed;
 use demands::Demands;
 use dest_classes::{ClassFault, ClassMap};
 use flow_rules::Config;
-use judged_classes::Classed;
 use net_base::Memory;
 use path_walk::PathRoom;
 use round_tables::{PreparedTables, Rollout};

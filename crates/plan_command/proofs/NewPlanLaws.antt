@@ -5,8 +5,8 @@ use Rattle.dest_classes.proofs.MapLaws.{number_fits}
 use Rattle.dest_classes.specs.declared.Class.{Class}
 use Rattle.demands.specs.Duties.{ClassDuties, DemandView}
 use Rattle.config_check.specs.declared.ends.EndBreak.{EndBreak}
-use Rattle.judged_classes.specs.declared.classed.Classed.{Classed}
-use Rattle.judged_classes.specs.Classed.{AreClassed}
+use Rattle.config_check.specs.declared.classed.Classed.{Classed}
+use Rattle.config_check.specs.Classed.{AreClassed}
 use Rattle.config_check.specs.Ends.{AreGoodEnds, IsFirstEndBreak}
 use Rattle.update_model.specs.declared.Change.{Change}
 use Rattle.certificates.specs.Certified.{IsCertified}

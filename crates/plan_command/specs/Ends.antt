@@ -3,9 +3,9 @@ use Rattle.std.specs.Prelude.{◌≡◌, ◌⊎◌, ℕ, ◌≤◌, Bool, List, 
 use Rattle.dest_classes.specs.Classes.{IsClass}
 use Rattle.dest_classes.specs.declared.Class.{Class}
 use Rattle.config_check.specs.declared.Breaks.{Breaks}
-use Rattle.judged_classes.specs.declared.classed.Classed.{Classed}
+use Rattle.config_check.specs.declared.classed.Classed.{Classed}
 use Rattle.config_check.specs.declared.ends.EndBreak.{EndBreak}
-use Rattle.judged_classes.specs.Classed.{AreClassed}
+use Rattle.config_check.specs.Classed.{AreClassed}
 use Rattle.config_check.specs.Ends.{AreGoodEnds, IsFirstEndBreak}
 use Rattle.certificates.specs.Updates.{Update}
 use Rattle.check_reasons.specs.declared.reason.Reason.TheVariants.{EndBreaks}

@@ -3,17 +3,17 @@ ghost use Rattle.std.specs.Prelude.{IfOk, IfErr};
 ghost use Rattle.flow_rules.specs.Tables.{rules_of_all};
 ghost use Rattle.path_walk.specs.UserConfigs.{IsUserConfig};
 ghost use Rattle.dest_classes.specs.Numbered.{IsCauseOf};
-ghost use Rattle.judged_classes.specs.Classed.{AreClassed};
+ghost use Rattle.config_check.specs.Classed.{AreClassed};
 ghost use Rattle.round_planner.specs.Updates.{update_classes};
 ghost use Rattle.command_base.specs.Updates.{meaning_of};
 ghost use Rattle.command_base.specs.Replies.{answer_of};
 ghost use Rattle.plan_command.specs.Ends.{IsBrokenEnd, IsEndsRefusal, IsVerdictOnEnds};
 
 use check_base::refused_reply;
+use check_reasons::Reason;
 use command_base::{Reply, UpdateFiles};
-use config_check::{EndBreak, first_end_break};
+use config_check::{Classed, EndBreak, first_end_break};
 use dest_classes::{Class, ClassFault};
-use judged_classes::{Classed, of_end};
 use net_base::Memory;
 use path_walk::PathRoom;
 use round_planner::update_prefixes;
@@ -37,7 +37,7 @@ pub fn break_reply(
     requires { IsBrokenEnd (meaning_of files.now) end class }
     ensures { IfOk result (λ r. IsEndsRefusal (meaning_of files.now) (answer_of r)) }
 {
-    refused_reply(alloc, &files.net, Some(class), of_end(end))
+    refused_reply(alloc, &files.net, Some(class), Reason::of_end(end))
 }
 
 /// The verdict on both ends over few enough classes.

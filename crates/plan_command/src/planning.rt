@@ -22,7 +22,7 @@ use crate::no_plan_lines::{too_few_lines, too_small_lines};
 use certificates::Plan;
 use certificates::laws::certified_consistent;
 use command_base::{Reply, Status, UpdateFiles, no_classes_reply};
-use judged_classes::Classed;
+use config_check::Classed;
 use net_base::Memory;
 use round_planner::{Ordered, order};
 use std::alloc::Global;

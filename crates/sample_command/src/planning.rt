@@ -7,7 +7,7 @@ ghost use Rattle.update_model.specs.Remaining.{remaining_changes};
 ghost use Rattle.certificates.specs.Certified.{IsCertified, classes_for};
 ghost use Rattle.certificates.specs.Trees.{IsTreeUpdate};
 ghost use Rattle.certificates.specs.Valid.{IsValidPlan};
-ghost use Rattle.judged_classes.specs.Classed.{AreClassed};
+ghost use Rattle.config_check.specs.Classed.{AreClassed};
 ghost use Rattle.table_difference.specs.SameClasses.{HasSameClasses};
 ghost use Rattle.round_planner.specs.Ends.{IsPlanOf};
 ghost use Rattle.command_base.specs.Judgements.{most_classes};
@@ -17,8 +17,8 @@ ghost use Rattle.round_planner.specs.Updates.{update_classes, update_count, upda
 
 use certificates::Plan;
 use command_base::UpdateFiles;
+use config_check::Classed;
 use dest_classes::ClassFault;
-use judged_classes::Classed;
 use net_base::Memory;
 use plan_verdict::{PlanVerdict, plan_verdict};
 use round_planner::{Ordered, order, update_prefixes};

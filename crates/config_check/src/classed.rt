@@ -3,7 +3,7 @@ ghost use Rattle.std.specs.Prelude.{IfOk, IfErr};
 ghost use Rattle.dest_classes.specs.Classes.{classes_of};
 ghost use Rattle.dest_classes.specs.Numbered.{IsCauseOf};
 ghost use Rattle.demands.specs.OfClass.{AreCovered};
-ghost use Rattle.judged_classes.specs.Classed.{AreClassed};
+ghost use Rattle.config_check.specs.Classed.{AreClassed};
 
 use demands::{Demands, Duties};
 use dest_classes::{ClassFault, ClassMap, class_map};
