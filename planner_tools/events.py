@@ -23,33 +23,15 @@ def heard(head, what, more):
     tell(kind, what=what, more=list(more))
 
 
-def tell_block(core, line, block, plan):
-    """Writes what a block of `serve` tells, which answers a line. `core` is what was there before it, and `plan` the name of the plan's file."""
-    if SINK is None or not block[-1].startswith("ok "):
-        return
-    round_ = core.settled + (core.is_running or line == "start")
-    is_back = line == "back" or core.is_back and core.is_running
-    for words in (one.split(" ") for one in block[:-1]):
-        if words[0] in ("change", "undo"):
-            do, rule = rounds_of(plan)[round_ - 1][int(words[1])]
-            tell({"change": "changed", "undo": "undone"}[words[0]], round=round_, change=int(words[1]), do=do, rule={name: it for name, it in rule.items() if name != "do"})
-        elif words[0] == "settle":
-            tell("taken back" if is_back else "settled", round=round_)
-        elif words[0] in ("start", "back"):
-            tell({"start": "started", "back": "turned"}[words[0]], round=round_)
-        elif words[0] == "failed":
-            tell("failed", switch=words[1], cause=" ".join(words[2:]))
-    if line == "back" and core.is_running and not core.is_back:
-        tell("turned", round=round_)
-
-
-def rounds_of(plan, known={}):
-    """The changes of each round of a plan, as (do, rule)."""
-    if plan not in known:
-        from planner_tools.story import Changes
-        with open(plan, encoding="utf-8") as file:
-            known[plan] = Changes(json.load(file)).rounds
-    return known[plan]
+def tell_events(happened):
+    """Writes the events of a session of the library."""
+    for one in happened:
+        if one.kind in ("changed", "undone"):
+            tell(one.kind, round=one.round, change=one.change, do=one.do, rule=one.rule)
+        elif one.kind == "failed":
+            tell("failed", switch=one.switch, cause=one.cause)
+        else:
+            tell(one.kind, round=one.round)
 
 
 class Lines(io.TextIOBase):

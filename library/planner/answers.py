@@ -8,7 +8,7 @@ import subprocess
 import sys
 from typing import Any, Mapping
 
-from planner.programs import File, Files, front_end, program
+from planner.programs import File, Files, front_end, path
 
 # The exit statuses of an answer about the files. With all others nothing was found out about them.
 ANSWERS = (0, 1, 3, 4, 5, 8)
@@ -149,7 +149,7 @@ def ask(command: str, files: Mapping[str, File], *words: str) -> Answer:
     given = Files(files)
     with given as names:
         done = subprocess.run([sys.executable, "-I", front_end(), command, *names, *words, "--json"], cwd=given.folder, stdin=subprocess.DEVNULL, capture_output=True,
-                              text=True, errors="replace", check=False, env={**os.environ, "PLANNER": os.path.abspath(program()) if os.sep in program() else program()})
+                              text=True, errors="replace", check=False, env={**os.environ, "PLANNER": path()})
     try:
         answer = answer_of(json.loads(done.stdout))
     except (ValueError, KeyError, TypeError) as fault:

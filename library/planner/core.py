@@ -54,6 +54,21 @@ class Step:
     is_back: bool
 
 
+@dataclasses.dataclass(frozen=True)
+class Reply:
+    """What `serve` answers to a line: the last line of its block, and what follows from it. Nothing does where the line wasn't taken."""
+
+    line: str
+    last: str
+    messages: tuple[Message, ...] = ()
+    events: tuple[Event, ...] = ()
+
+    @property
+    def is_taken(self) -> bool:
+        """Whether the line was carried out."""
+        return self.last.startswith("ok ")
+
+
 class NotNow(Exception):
     """A round can't begin, or be turned, now: `running`, `finished`, `begun` (nothing is) or `open` (the switch's session isn't)."""
 
@@ -71,12 +86,37 @@ class Refused(Exception):
 
 
 class ServeEnded(Exception):
-    """`planner serve` ended, or didn't answer in time. What follows from the call isn't known: go on by the record, in a new session."""
+    """`planner serve` ended, or didn't answer in time. What follows from the call isn't known: go on by the record, in a new session. Where it ended, its exit
+    status, and what it had said of a block by then."""
+
+    def __init__(self, words: str, status: int | None = None, text: str = ""):
+        super().__init__(words)
+        self.status, self.text = status, text
+
+
+def end_of(status: int, text: str) -> Refused | ServeEnded:
+    """What an end of `serve` is, by its exit status and what it said."""
+    if status in (1, 2, 3):
+        return Refused(status, text)
+    return ServeEnded(f"`planner serve` ended with status {status}{': ' + text.strip() if text.strip() else ''}", status, text)
+
+
+def checked(reply: Reply) -> Reply:
+    """A reply to a line that was taken. NotNow, or ValueError, where it wasn't."""
+    if reply.last.startswith("no "):
+        raise NotNow(*reply.last.split(" ")[1:])
+    if not reply.is_taken:
+        raise ValueError(f"`planner serve` answers `{reply.last}` to `{reply.line[:60]}`")
+    return reply
+
+
+def xid_of(message: bytes) -> int:
+    return int.from_bytes(message[4:8], "big")
 
 
 def is_own(message: bytes) -> bool:
     """Whether a message has an xid of the controller's own."""
-    return len(message) >= 8 and int.from_bytes(message[4:8], "big") in OWN_XIDS
+    return len(message) >= 8 and xid_of(message) in OWN_XIDS
 
 
 def is_header(data: bytes) -> bool:
@@ -113,7 +153,8 @@ def rounds_of(plan: bytes) -> list[list[Change]]:
 
 
 class Core:
-    """How far the update is, which sessions are open or have failed, and who owes an answer, by what `serve` has said."""
+    """How far the update is and which way it goes, which sessions are open or have failed, who owes an answer, and what of each round is in force, by what
+    `serve` has said."""
 
     def __init__(self, plan: list[list[Change]]):
         self.plan = plan
@@ -121,7 +162,15 @@ class Core:
         self.rest: dict[str, bytes] = {}         # by switch: the beginning of a message
         self.open: set[str] = set()
         self.failed: dict[str, str] = {}         # by switch: the cause for which its session failed
+        self.failures = 0                        # how many sessions have failed so far
         self.due: dict[str, list[int]] = {}      # by switch: the xids of the barrier requests on its session that aren't answered
+        self.sent: dict[str, dict[int, bytes]] = {}      # by switch: its flow messages of the running round, by their xids
+        self.begun, self.carried_out, self.undone = False, 0, 0          # whether a round was started; how many were settled, and undone
+        self.history: list[list[int]] = []       # of each round that is settled or runs the changes in force, in their order
+
+    def number(self) -> int:
+        """The number of the running round, or of the one that was settled last."""
+        return self.settled + self.is_running
 
     def owing(self) -> set[str]:
         """The switches that hold up the running round: they owe an answer, or their session failed."""
@@ -150,13 +199,11 @@ class Core:
 
     # ---- what is answered
 
-    def take(self, line: str, block: list[str]) -> tuple[list[Message], list[Event]]:
+    def take(self, line: str, block: list[str]) -> Reply:
         """Takes a line that was given and its block."""
         *told, last = block
-        if last.startswith("no "):
-            raise NotNow(*last.split(" ")[1:])
         if not last.startswith("ok "):
-            raise ValueError(f"`planner serve` answers `{last}` to `{line[:60]}`")
+            return Reply(line, last)
         words = line.split(" ")
         round_ = self.settled + (self.is_running or words[0] == "start")
         was_turned = words[0] == "back" and self.is_running
@@ -168,10 +215,11 @@ class Core:
         _, state, number, _, rounds = last.split(" ")
         self.is_running, self.rounds = state == "running", int(rounds)
         self.settled = int(number) - self.is_running
-        return messages, events
+        return Reply(line, last, tuple(messages), tuple(events))
 
     def take_line(self, words: list[str]) -> None:
         if words[0] in ("start", "back"):
+            self.sent = {}
             self.is_back = words[0] == "back"
         elif words[0] == "reopen":
             self.open.discard(words[1])
@@ -181,19 +229,20 @@ class Core:
             self.take_message(words[1], bytes.fromhex(words[2]))
 
     def take_message(self, switch: str, message: bytes) -> None:
+        if len(message) < 8:
+            return
         if message[1] == TYPE_HELLO:
             self.open.add(switch)
-        elif message[1] == TYPE_BARRIER_REPLY and self.due.get(switch, [])[:1] == [int.from_bytes(message[4:8], "big")]:
+        elif message[1] == TYPE_BARRIER_REPLY and self.due.get(switch, [])[:1] == [xid_of(message)]:
             del self.due[switch][0]
 
     def take_told(self, words: list[str], round_: int, messages: list[Message], events: list[Event]) -> None:
         if words[0] == "send":
-            message = Message(words[1], bytes.fromhex(words[2]))
-            messages.append(message)
-            if message.data[1] == TYPE_BARRIER_REQUEST:
-                self.due.setdefault(words[1], []).append(int.from_bytes(message.data[4:8], "big"))
+            messages.append(Message(words[1], bytes.fromhex(words[2])))
+            self.note_sent(words[1], messages[-1].data)
         elif words[0] == "failed":
             self.failed[words[1]], self.due[words[1]] = " ".join(words[2:]), []
+            self.failures += 1
             self.open.discard(words[1])
             events.append(Event("failed", round_, switch=words[1], cause=" ".join(words[2:])))
         elif words[0] in ("change", "undo"):
@@ -203,6 +252,36 @@ class Core:
             events.append(Event("taken back" if self.is_back else "settled", round_))
         else:
             events.append(Event({"start": "started", "back": "turned"}[words[0]], round_))
+        self.note_event(words)
+
+    def note_sent(self, switch: str, message: bytes) -> None:
+        if message[1] == TYPE_BARRIER_REQUEST:
+            self.due.setdefault(switch, []).append(xid_of(message))
+        elif message[1] == TYPE_FLOW_MOD:
+            self.sent.setdefault(switch, {})[xid_of(message)] = message
+
+    def note_event(self, words: list[str]) -> None:
+        """Notes what of each round is in force."""
+        if words[0] == "start":
+            self.begun = True
+            self.history.append([])
+        elif words[0] == "change":
+            self.history[-1].append(int(words[1]))
+        elif words[0] == "undo":
+            self.history[-1].remove(int(words[1]))
+        elif words[0] == "settle" and self.is_back:
+            self.history.pop()
+            self.undone += 1
+        elif words[0] == "settle":
+            self.carried_out += 1
+
+    def schedule(self) -> str:
+        """The events that lead to the present state, as a schedule. Of a round that is being undone it has no change, so each of them is pending."""
+        lines: list[str] = []
+        for number, changes in enumerate(self.history, 1):
+            is_settled = number <= self.settled
+            lines += ["start", *(f"change {one}" for one in changes if is_settled or not self.is_back), *(["settle"] if is_settled else [])]
+        return "".join(f"{line}\n" for line in lines)
 
     def step(self, messages: list[Message], events: list[Event], others: list[Message]) -> Step:
         return Step(tuple(messages), tuple(events), tuple(others), self.settled, self.rounds, self.is_running, self.is_back)

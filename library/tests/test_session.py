@@ -204,7 +204,7 @@ class Sessions(unittest.TestCase):
 
     def test_a_program_that_ends_or_hangs(self):
         session = self.open(SQUARE)
-        session._process.kill()
+        session._serve.process.kill()
         with self.assertRaises(planner.ServeEnded):
             session.start()
         with self.assertRaises(planner.ServeEnded):

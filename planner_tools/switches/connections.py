@@ -11,6 +11,7 @@ import os
 import selectors
 import socket
 import time
+from typing import Optional
 
 from planner_tools.files import NotJson, read_json
 from planner_tools.network import Network
@@ -22,6 +23,11 @@ OWN = 0xFEA70000
 FEATURES_XID = OWN
 # How often a switch that can't be reached is tried, in seconds.
 AGAIN = 1.0
+
+
+# By its name the datapath id and the address, or None, of each switch of a file of switches.
+Address = tuple[str, int]
+Listed = dict[str, tuple[int, Optional[Address]]]
 
 
 class Stop(Exception):
@@ -197,6 +203,10 @@ class Connection:
         return []
 
 
+# What came: "up" where a connection says which switch it is, "message" with its bytes, "down" where it is over.
+Heard = tuple[str, Connection, bytes]
+
+
 class Switches:
     """All connections. New ones are made or taken, and each gets its name. A connection may take `patience` seconds to say which switch it is."""
 
@@ -258,8 +268,7 @@ class Switches:
             self.selector.modify(connection.sock, connection.awaited, connection)
 
     def poll(self, seconds, quiet=0.005, longest=0.5):
-        """Takes what comes until the connections are quiet, after at most `seconds` for the first sign: a list of ("up", connection, None),
-        ("message", connection, bytes), ("down", connection, None)."""
+        """Takes what comes until the connections are quiet, after at most `seconds` for the first sign: what was heard, in its order."""
         self.connect_missing()
         for one in self.connections():
             if one.name is None and time.monotonic() - one.since > self.patience:
@@ -302,10 +311,10 @@ class Switches:
             self.turn_away(one, one.why or "ended, or sent what is no OpenFlow 1.0, before it said which switch it is")
         elif pieces is None:
             self.drop(one)
-            return [("down", one, None)]
+            return [("down", one, b"")]
         elif one.name is None and one.datapath is not None:
             if self.give_name(one):
-                return [("up", one, None)] + [("message", one, piece) for piece in one.early]
+                return [("up", one, b"")] + [("message", one, piece) for piece in one.early]
         else:
             return [("message", one, piece) for piece in pieces]
         return []

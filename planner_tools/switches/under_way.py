@@ -8,18 +8,18 @@ import fcntl
 import glob
 import hashlib
 import json
+import math
 import os
-import time
 
+import planner
 from planner_tools.files import NotJson, read_json
 from planner_tools.network import plain
 from planner_tools.proved import REFUSALS, answer_for
-from planner_tools.switches import collect, openflow
+from planner_tools.switches import beside, collect, openflow
 from planner_tools.switches.connections import Stop, lock, progress
 from planner_tools.switches.entries import action_words
 from planner_tools.switches.expected import rule_action, rule_key
 from planner_tools.switches.record import HEAD, SUM, Record
-from planner_tools.switches.served import Core, Ended, Serve
 
 FILES = ("topology", "old", "new", "policy", "plan")
 # So many names of switches are told of a longer list.
@@ -55,20 +55,21 @@ class Head:
         """How far the update came, by what `planner serve` says of its lines; or None where it doesn't take them."""
         with open(self.path, encoding="ascii", errors="replace") as file:
             lines = [line[:-1] for line in file if line.endswith("\n") and not line.startswith("#") and line.strip()]
-        serve, core = Serve(files, wait), Core()
         try:
-            core.take("", serve.first())
-            for line, block in zip(lines, serve.blocks(lines)):
-                core.take(line, block)
-        except Ended:
+            with session_of(files) as session:
+                for _ in session.replies(lines):
+                    pass
+                return session.core
+        except (planner.Refused, planner.ServeEnded):
             return None
-        finally:
-            serve.close()
-        return core
 
 
-def wait():
-    time.sleep(0.002)
+def session_of(files):
+    """A session of the library over five files."""
+    try:
+        return planner.Session(*files, patience=math.inf, program=beside.path())
+    except planner.NoProgram as fault:
+        raise beside.not_run(fault.__cause__ or fault) from None
 
 
 def sum_of(path):
@@ -184,35 +185,37 @@ def recover(options):
 
 def write_record(path, files, found):
     """Writes the record of an update that came so far."""
-    sums = " ".join(sum_of(one) or "" for one in files)
-    record, serve, core = Record(path, False, f"files {sums}"), Serve(files, wait), Core()
-
-    def give(line):
-        record.give(line)
-        return core.take(line, next(serve.blocks([line])))
-
+    record = Record(path, False, f"files {' '.join(sum_of(one) or '' for one in files)}")
     try:
-        core.take("", serve.first())
-        record.remark("this record is made anew from what the switches have; its lines are no answers that were heard")
-        names = [one["name"] for one in plain(read_json(files[0]).root)["switches"]]
-        for name in names:
-            give(f"feed {name} {openflow.HELLO_BYTES.hex()}")
-        for _ in range(found.settled):
-            asked = [(name, message) for name, message in give("start") if openflow.type_of(message) == openflow.BARRIER_REQUEST]
-            for name, message in asked:
-                give(f"feed {name} {openflow.message(openflow.BARRIER_REPLY, openflow.xid_of(message)).hex()}")
-        if found.is_running:
-            give("start")
-        record.keep()
-    except Ended as end:
+        with session_of(files) as session:
+            give_lines(record, session, files[0], found)
+            core = session.core
+    except (planner.Refused, planner.ServeEnded) as end:
         record.remove()
         raise Stop(f"`planner serve` ended with status {end.status}{f' and said: {end.text.strip()}' if end.text else ''}", "give the files of the update") from None
     finally:
         record.file.close()
-        serve.close()
     if (core.settled, core.is_running) != (found.settled, found.is_running):
         os.unlink(path)
         raise Stop(f"`planner serve` doesn't come to where {found}", "see that the program is as new as these scripts")
+
+
+def give_lines(record, session, topology, found):
+    """Gives the lines by which `serve` comes so far, and has them in the record."""
+    def give(line):
+        record.give(line)
+        return [message for reply in session.replies([line]) for message in reply.messages]
+
+    record.remark("this record is made anew from what the switches have; its lines are no answers that were heard")
+    for one in plain(read_json(topology).root)["switches"]:
+        give(f"feed {one['name']} {openflow.HELLO_BYTES.hex()}")
+    for _ in range(found.settled):
+        for one in give("start"):
+            if openflow.type_of(one.data) == openflow.BARRIER_REQUEST:
+                give(f"feed {one.switch} {openflow.message(openflow.BARRIER_REPLY, openflow.xid_of(one.data)).hex()}")
+    if found.is_running:
+        give("start")
+    record.keep()
 
 
 # ---- what `planner update` finds

@@ -9,7 +9,7 @@ TOOLS = os.path.join(rows.ROOT, "planner_tools")
 # The modules that begin processes, and why that is no way round.
 BEGIN = {
     "program.py": "runs and builds the program, for the module below",
-    "switches/served.py": "runs it beside the switches, while they are listened to; `conversation.py` says what it refuses by the one function",
+    "switches/beside.py": "runs it beside the switches, while they are listened to; `conversation.py` says what it refuses by the one function",
     "page/verdict.py": "asks for what a page shows; `page.py` says what is refused by the one function",
     "page/layout.py": "runs graphviz",
     "install/toolchain.py": "runs the toolchain",

@@ -9,7 +9,6 @@ import unittest
 
 from network import LONGEST, PLANNER, Network, UpdateTest
 from planner_tools.switches import openflow
-from planner_tools.switches.served import Core
 
 # The lines that a core of the older form had, beside comments.
 OLDER = re.compile(r"(start|feed [^ ]+ [0-9a-f]+)$")
@@ -178,31 +177,6 @@ class Turning(UpdateTest):
                 self.assertTrue(all(OLDER.match(line) for line in net.record.read_text().splitlines() if not line.startswith("#")))
                 net.switches["s3"].is_silent = False
                 end(net, net.apply(*more))
-
-
-class Cores(unittest.TestCase):
-    def test_a_core_tells_what_is_in_force_and_who_owes_what(self):
-        core = Core()
-        flow, request = openflow.message(openflow.FLOW_MOD, 1, bytes(64)).hex(), openflow.message(openflow.BARRIER_REQUEST, 2).hex()
-        hello, reply = openflow.HELLO_BYTES.hex(), openflow.message(openflow.BARRIER_REPLY, 2).hex()
-        steps = [
-            ("", [f"send s1 {hello}", "ok settled 0 of 2"], (False, False, 0, set(), "")),
-            ("start", ["no open s1"], (False, False, 0, set(), "")),
-            (f"feed s1 {hello}", ["ok settled 0 of 2"], (False, False, 0, set(), "")),
-            ("start", ["start", f"send s1 {flow}", f"send s1 {request}", "ok running 1 of 2"], (True, False, 0, {"s1"}, "start\n")),
-            (f"feed s1 {reply}", ["change 0", "settle", "ok settled 1 of 2"], (False, False, 1, set(), "start\nchange 0\nsettle\n")),
-            ("back", ["back", f"send s1 {request}", "ok running 1 of 2"], (True, True, 0, {"s1"}, "start\n")),
-            ("feed s1 0100000c000000020003", ["failed s1 Error 3 0", "ok running 1 of 2"], (True, True, 0, {"s1"}, "start\n")),
-            ("reopen s1", [f"send s1 {hello}", "ok running 1 of 2"], (True, True, 0, set(), "start\n")),
-            (f"feed s1 {hello}", [f"send s1 {request}", "ok running 1 of 2"], (True, True, 0, {"s1"}, "start\n")),
-            (f"feed s1 {reply}", ["undo 0", "settle", "ok settled 0 of 2"], (False, True, 0, set(), "")),
-        ]
-        for line, block, expected in steps:
-            with self.subTest(line):
-                messages = core.take(line, block)
-                self.assertEqual(messages, [(it.split()[1], bytes.fromhex(it.split()[2])) for it in block if it.startswith("send ")])
-                self.assertEqual((core.is_running, core.is_back, core.settled, core.owing(), core.schedule()), expected)
-        self.assertEqual((core.carried_out, core.undone, core.open), (1, 1, {"s1"}))
 
 
 if __name__ == "__main__":
