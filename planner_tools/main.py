@@ -133,7 +133,7 @@ def answer(words, begin=None):
         return 0
     if words[:1] == ["--help"] or "--help" in words[1:] and words[0] not in MODULES:
         return print_help(words)
-    from planner_tools.proved import Run, Stop
+    from planner_tools.proved import Run, Unable
     from planner_tools.voice import Voice
     try:
         if words and words[0] in MODULES and words[0] not in WITH_OUTPUT:
@@ -143,13 +143,13 @@ def answer(words, begin=None):
         import signal
         signal.signal(signal.SIGTERM, ended)
         return run_module(rest, options) if rest and rest[0] in MODULES else (begin or Run)(rest, options).run()
-    except Stop as stop:
+    except Unable as stop:
         Voice().refuse(str(stop), stop.more)
         return stop.status
     except ValueError as fault:
         Voice().refuse(str(fault), ["`planner --help` has the commands and the options"])
         return WRONG_WORDS
-    except program.NoProgram as fault:
+    except program.CannotRun as fault:
         Voice().refuse(str(fault))
         return program.NO_PROGRAM
     except KeyboardInterrupt:
@@ -164,21 +164,21 @@ def is_option(word):
 def missing_folder(words):
     """Says of a command of the front end that its one name is none of a file or a folder that is there."""
     from planner_tools.files import like
-    from planner_tools.proved import Stop
+    from planner_tools.proved import Unable
     if not is_option(words[1]) and not os.path.exists(words[1]) and (len(words) == 2 or is_option(words[2])):
-        raise Stop(f"{words[1]}: No such file or directory{like(words[1])}", WRONG_WORDS, [f"a folder stands for the files that are left out: planner {words[0]} FOLDER"])
+        raise Unable(f"{words[1]}: No such file or directory{like(words[1])}", WRONG_WORDS, [f"a folder stands for the files that are left out: planner {words[0]} FOLDER"])
 
 
 def warn_of_doubtful(words, options):
     """Warns of words of a command of the front end that name a file of the working folder, though the folder before them has one of that name."""
-    from planner_tools.proved import BAD_FILE, Stop, doubtful
+    from planner_tools.proved import BAD_FILE, Unable, doubtful
     from planner_tools.voice import Voice
     is_quiet, is_strict = options.is_quiet or "--quiet" in words, options.is_strict or "--strict" in words
     found = doubtful(words[1], words[2:])
     for what, more in found:
         Voice(is_quiet=is_quiet and not is_strict).warn(what, more)
     if found and is_strict:
-        raise Stop("nothing is done, as there are warnings and --strict is given", BAD_FILE)
+        raise Unable("nothing is done, as there are warnings and --strict is given", BAD_FILE)
 
 
 def unfolded(words, options):
@@ -208,7 +208,7 @@ def run_module(words, options):
             return command(words[1:])
         except OSError as fault:
             return unwritten(fault)
-    from planner_tools.proved import Output, Stop
+    from planner_tools.proved import Output, Unable
     output, before = Output(options.output), sys.stdout
     try:
         with open(output.handle, "w", encoding="utf-8", closefd=False) as sys.stdout:
@@ -216,7 +216,7 @@ def run_module(words, options):
         output.end(status)
         return status
     except OSError as fault:
-        raise Stop(f"{options.output}: the output couldn't all be written: {fault.strerror}", UNWRITTEN) from fault
+        raise Unable(f"{options.output}: the output couldn't all be written: {fault.strerror}", UNWRITTEN) from fault
     finally:
         sys.stdout = before
         output.drop()

@@ -18,7 +18,7 @@ BUILD = os.path.join(ROOT, "tools", "build.py")
 NO_PROGRAM = 125
 
 
-class NoProgram(Exception):
+class CannotRun(Exception):
     """There is no program to run, or it can't be run: why, and what to do."""
 
 
@@ -44,18 +44,18 @@ def named():
 
 
 def path():
-    """The path of the program. Builds nothing: where there is none it is NoProgram."""
+    """The path of the program. Builds nothing: where there is none it is CannotRun."""
     name = named()
     if name and os.sep in name and not os.access(name, os.X_OK):
-        raise NoProgram(f"the variable PLANNER names {name}, which isn't there or can't be run")
+        raise CannotRun(f"the variable PLANNER names {name}, which isn't there or can't be run")
     if name:
         return name
     for one in in_checkout() if is_checkout() else (INSTALLED,):
         if os.access(one, os.X_OK):
             return one
     if is_checkout():
-        raise NoProgram(f"the program isn't built yet: `python3 {os.path.relpath(BUILD)} planner_cli` proves and builds it; {shipped.why_not(ROOT)}")
-    raise NoProgram(f"the program isn't there: {INSTALLED} is missing, or PLANNER has to name it")
+        raise CannotRun(f"the program isn't built yet: `python3 {os.path.relpath(BUILD)} planner_cli` proves and builds it; {shipped.why_not(ROOT)}")
+    raise CannotRun(f"the program isn't there: {INSTALLED} is missing, or PLANNER has to name it")
 
 
 def in_checkout():
@@ -88,7 +88,7 @@ class Started:
             self.number = os.posix_spawnp(words[0], words, os.environ, file_actions=[(os.POSIX_SPAWN_DUP2, writer, 1)], setsigdef=[signal.SIGPIPE, signal.SIGXFSZ])
         except OSError as fault:
             self.close()
-            raise NoProgram(f"the program can't be run: {fault}") from fault
+            raise CannotRun(f"the program can't be run: {fault}") from fault
         finally:
             os.close(writer)
 
@@ -156,5 +156,5 @@ def built():
         print(f"planner: the program is proved and built first: {shipped.why_not(ROOT)}", file=sys.stderr, flush=True)
         import subprocess
         if subprocess.run([sys.executable, "-B", BUILD, "planner_cli"], check=False).returncode != 0:
-            raise NoProgram("the program can't be built")
+            raise CannotRun("the program can't be built")
     return path()

@@ -54,7 +54,7 @@ def look(how, *given):
     return run.warned, is_ended
 
 
-class Stop(Exception):
+class Unable(Exception):
     """The front end can't do what is asked: why, and the exit status."""
 
     def __init__(self, why, status, more=()):
@@ -74,7 +74,7 @@ def standard_input():
     import shutil
     import tempfile
     if sys.stdin is None:
-        raise Stop("the standard input is closed", UNREAD)
+        raise Unable("the standard input is closed", UNREAD)
     spooled = tempfile.NamedTemporaryFile(prefix="planner-")
     shutil.copyfileobj(sys.stdin.buffer, spooled)
     spooled.flush()
@@ -92,7 +92,7 @@ class Names:
         if word != "-":
             return word
         if self.spooled is not None:
-            raise Stop(TWICE, WRONG_WORDS)
+            raise Unable(TWICE, WRONG_WORDS)
         self.spooled = standard_input()
         return self.spooled.name
 
@@ -203,13 +203,13 @@ class Run:
         from planner_tools.explanations import is_option, option_lines
         odd = [one.shown for one in self.files.values() if is_option(one.shown) and not os.path.exists(one.shown)]
         if odd:
-            raise Stop(option_lines(odd)[0], WRONG_WORDS, ["`planner --help` has the options"])
+            raise Unable(option_lines(odd)[0], WRONG_WORDS, ["`planner --help` has the options"])
 
     def file(self, text):
         if text != "-":
             return Given(text, text)
         if self.spooled is not None:
-            raise Stop(TWICE, WRONG_WORDS)
+            raise Unable(TWICE, WRONG_WORDS)
         self.spooled = standard_input()
         return Given(self.spooled.name, INPUT_NAME)
 
@@ -348,14 +348,14 @@ class Output:
         try:
             self.handle, self.name = tempfile.mkstemp(prefix=f".{os.path.basename(self.path)}.", dir=os.path.dirname(self.path) or ".")
         except OSError as fault:
-            raise Stop(f"{self.path}: {fault.strerror}", UNWRITTEN) from fault
+            raise Unable(f"{self.path}: {fault.strerror}", UNWRITTEN) from fault
 
     def open_there(self):
         """Opens what is no ordinary file, as /dev/stdout. A folder is none that can be written."""
         try:
             self.handle = os.open(self.path, os.O_WRONLY)
         except OSError as fault:
-            raise Stop(f"{self.path}: {fault.strerror}", UNWRITTEN, ["-o takes the name of a file"] if os.path.isdir(self.path) else []) from fault
+            raise Unable(f"{self.path}: {fault.strerror}", UNWRITTEN, ["-o takes the name of a file"] if os.path.isdir(self.path) else []) from fault
 
     def write(self, piece):
         while piece:

@@ -12,7 +12,7 @@ from planner_tools import network as nets
 from planner_tools import story
 from planner_tools.files import NotJson, counted, like, read_json
 from planner_tools.intent import entries
-from planner_tools.proved import Names, Stop, beside, doubtful, joined, say_why
+from planner_tools.proved import Names, Unable, beside, doubtful, joined, say_why
 from planner_tools.voice import Voice
 
 WAIT = 2.0
@@ -30,12 +30,12 @@ def kind_of(path, shown=None):
         with open(path, "rb") as file:
             begins = file.read(200).lstrip(b" \t\r\n\xef\xbb\xbf")[:1]
         if begins in (b"{", b"["):
-            raise Stop(f"{shown}: it is no JSON that can be shown: {fault.what}", BAD_FILE) from fault
+            raise Unable(f"{shown}: it is no JSON that can be shown: {fault.what}", BAD_FILE) from fault
         return "schedule"
     for member, kind in (("rounds", "plan"), ("switches", "topology"), ("rules", "configuration"), ("demands", "policy")):
         if root.member(member) is not None:
             return kind
-    raise Stop(f"{shown}: it is neither a plan nor a configuration", BAD_FILE, ["a plan has `rounds`, a configuration `rules`"])
+    raise Unable(f"{shown}: it is neither a plan nor a configuration", BAD_FILE, ["a plan has `rounds`, a configuration `rules`"])
 
 
 def at_folder(folder, name):
@@ -52,13 +52,13 @@ class Shown:
         names = self.unfolded([self.names.real(name) for name in ([".", "-"] if names == ["-"] else names)])
         for name in names:
             if not os.path.exists(name):
-                raise Stop(f"{name}: No such file or directory{like(name)}", 6)
+                raise Unable(f"{name}: No such file or directory{like(name)}", 6)
         for name in names[1:]:
             kind, shown = kind_of(name, self.names.shown(name)), self.names.shown(name)
             if kind == "configuration" and len(names) == 3 and kind in self.files:
                 kind = OTHER
             if kind in ("topology", "policy") or kind in self.files:
-                raise Stop(f"{shown}: a {kind} isn't shown" if kind not in self.files else f"{shown}: a {kind} stands among the words already", BAD_FILE,
+                raise Unable(f"{shown}: a {kind} isn't shown" if kind not in self.files else f"{shown}: a {kind} stands among the words already", BAD_FILE,
                            ["planner show TOPO [OLD] [PLAN] FILE"])
             self.files[kind] = name
         self.topology, self.last = names[0], OTHER if OTHER in self.files else kind_of(names[-1], self.names.shown(names[-1]))
@@ -68,9 +68,9 @@ class Shown:
         folder = names[0]
         if not os.path.isdir(folder):
             if not os.path.exists(folder) and len(names) < 2:
-                raise Stop(f"{folder}: No such file or directory{like(folder)}", 2, ["a folder stands for the files that are left out", "planner show TOPO [OLD] [PLAN] FILE"])
+                raise Unable(f"{folder}: No such file or directory{like(folder)}", 2, ["a folder stands for the files that are left out", "planner show TOPO [OLD] [PLAN] FILE"])
             if len(names) < 2:
-                raise Stop("the file that is to be shown is missing", 2, ["planner show TOPO [OLD] [PLAN] FILE"])
+                raise Unable("the file that is to be shown is missing", 2, ["planner show TOPO [OLD] [PLAN] FILE"])
             return names
         inside = {kind: beside(folder, name) or joined(folder, name) for kind, name in (("topology", "topology.json"), ("configuration", "old.json"), ("plan", "plan.json"))}
         for what, more in doubtful(folder, names[1:]):
@@ -85,10 +85,10 @@ class Shown:
         return kind_of(name, self.names.shown(name)) if os.path.exists(name) else ""
 
     def ask(self, *given):
-        """The text of a run of the program over files. Where it refuses them, it is said why, and it is Stop."""
+        """The text of a run of the program over files. Where it refuses them, it is said why, and it is Unable."""
         status, text = say_why(*map(self.names.given, given), good=(0, 1))
         if status not in (0, 1):
-            raise Stop(None, status)
+            raise Unable(None, status)
         return text
 
     def network(self):
@@ -232,7 +232,7 @@ def main(words):
         else:
             lines = schedule_lines(shown, shown.network())
             values = {"events": lines[2:]}
-    except Stop as stop:
+    except Unable as stop:
         if stop.args[0] is None:
             return stop.status       # what the program refused is said already
         raise

@@ -13,7 +13,7 @@ MOST_SWITCHES, MOST_PORTS, MOST_VLANS, MOST_CAPACITY = 128, 64, 64, 8192
 LAST_PORT = 65279
 
 
-class Refused(Exception):
+class NotConverted(Exception):
     """No file is written: why, a line each, what to do next, and the exit status."""
 
     def __init__(self, lines, then="", status=BAD_FILE):
@@ -30,7 +30,7 @@ def run(work, words):
     """Does the work of a converter, which returns the text to write, and returns the exit status."""
     try:
         text = work(words)
-    except Refused as fault:
+    except NotConverted as fault:
         for line in fault.lines:
             say(line)
         say("nothing was written" + (f". Next: {fault.then}" if fault.then else ""))
@@ -48,13 +48,13 @@ def read_bytes(path):
     """The bytes of a file, or of the standard input for `-`."""
     try:
         if path == "-" and sys.stdin is None:
-            raise Refused("the standard input is closed", status=UNREADABLE)
+            raise NotConverted("the standard input is closed", status=UNREADABLE)
         if path == "-":
             return sys.stdin.buffer.read()
         with open(path, "rb") as file:
             return file.read()
     except OSError as fault:
-        raise Refused(f"{path}: it can't be read: {fault.strerror}", status=UNREADABLE) from fault
+        raise NotConverted(f"{path}: it can't be read: {fault.strerror}", status=UNREADABLE) from fault
 
 
 def read_text(path):
@@ -63,7 +63,7 @@ def read_text(path):
     try:
         return data.decode("utf-8-sig")
     except UnicodeDecodeError as fault:
-        raise Refused(f"{path}: it is no text in UTF-8: byte {fault.start} is {data[fault.start]:#04x}") from fault
+        raise NotConverted(f"{path}: it is no text in UTF-8: byte {fault.start} is {data[fault.start]:#04x}") from fault
 
 
 def nearest(word, known):
@@ -162,5 +162,5 @@ def checked(topology, path):
     """The text of a topology that the planner reads."""
     faults = topology.faults()
     if faults:
-        raise Refused([f"{path}: {fault}" for fault in faults])
+        raise NotConverted([f"{path}: {fault}" for fault in faults])
     return topology.text()

@@ -8,7 +8,7 @@ import re
 import unicodedata
 import xml.etree.ElementTree as xml
 
-from planner_tools.convert.common import NAME, UNWRITABLE, Refused, Topology, capacity, checked, name_list, nearest, read_bytes, run, say, tag_range, vlan_list
+from planner_tools.convert.common import NAME, UNWRITABLE, NotConverted, Topology, capacity, checked, name_list, nearest, read_bytes, run, say, tag_range, vlan_list
 from planner_tools.convert.weights import distance, speed, weights_text
 
 LONGEST_NAME = 32
@@ -23,26 +23,26 @@ class Graph:
         try:
             root = xml.fromstring(read_bytes(path))
         except xml.ParseError as fault:
-            raise Refused(f"{path}:{fault.position[0]}:{fault.position[1] + 1}: it is no XML: {str(fault).split(':')[0]}") from fault
+            raise NotConverted(f"{path}:{fault.position[0]}:{fault.position[1] + 1}: it is no XML: {str(fault).split(':')[0]}") from fault
         graphs = children(root, "graph")
         if local(root) != "graphml" or len(graphs) != 1:
-            raise Refused(f"{path}: it isn't GraphML with one graph")
+            raise NotConverted(f"{path}: it isn't GraphML with one graph")
         self.path, graph = path, graphs[0]
         if graph.get("edgedefault") == "directed" or any(edge.get("directed") == "true" for edge in children(graph, "edge")):
-            raise Refused(f"{path}: its edges are directed, and links go both ways", "make the graph undirected, with one edge for each link")
+            raise NotConverted(f"{path}: its edges are directed, and links go both ways", "make the graph undirected, with one edge for each link")
         if children(graph, "hyperedge"):
-            raise Refused(f"{path}: it has hyperedges, and a link joins two switches")
+            raise NotConverted(f"{path}: it has hyperedges, and a link joins two switches")
         keys = {key.get("id"): key.get("attr.name") for key in children(root, "key")}
         self.nodes = {}
         for node in children(graph, "node"):
             if node.get("id") is None or node.get("id") in self.nodes:
-                raise Refused(f"{path}: node {node.get('id')!r} has no id, or stands twice")
+                raise NotConverted(f"{path}: node {node.get('id')!r} has no id, or stands twice")
             self.nodes[node.get("id")] = values_of(node, keys)
         self.edges = [(edge.get("source"), edge.get("target")) for edge in children(graph, "edge")]
         self.edge_values = [values_of(edge, keys) for edge in children(graph, "edge")]
         unknown = [end for edge in self.edges for end in edge if end not in self.nodes]
         if unknown:
-            raise Refused(f"{path}: an edge names node {unknown[0]!r}, which isn't there")
+            raise NotConverted(f"{path}: an edge names node {unknown[0]!r}, which isn't there")
 
     def label(self, node):
         return self.nodes[node].get("label") or ""
@@ -81,7 +81,7 @@ def names_of(graph):
         elif count[name.lower()] > 1:
             name = f"{name[:LONGEST_NAME - 1 - len(ending)]}_{ending}"
         if name in taken or not NAME.fullmatch(name):
-            raise Refused(f"{graph.path}: node {node!r} can't be given a name of its own", "--names ids takes the ids")
+            raise NotConverted(f"{graph.path}: node {node!r} can't be given a name of its own", "--names ids takes the ids")
         names[node] = name
         taken.add(name)
     return names
@@ -94,7 +94,7 @@ def host_switches(graph, names, wanted, switches):
     by_word = {name: node for node, name in names.items()} | {node: node for node in graph.nodes}
     unknown = [word for word in wanted if by_word.get(word) not in switches]
     if unknown:
-        raise Refused([f"{graph.path} has no switch {word}{nearest(word, [names[one] for one in switches])}" for word in unknown], "name switches by name or id, or --hosts all", 2)
+        raise NotConverted([f"{graph.path} has no switch {word}{nearest(word, [names[one] for one in switches])}" for word in unknown], "name switches by name or id, or --hosts all", 2)
     return [by_word[word] for word in dict.fromkeys(wanted)]
 
 
@@ -142,7 +142,7 @@ def write_weights(path, measure, graph, topology):
         with open(path, "w", encoding="utf-8") as file:
             file.write(text)
     except OSError as fault:
-        raise Refused(f"{path}: it can't be written: {fault.strerror}", status=UNWRITABLE) from fault
+        raise NotConverted(f"{path}: it can't be written: {fault.strerror}", status=UNWRITABLE) from fault
     if lacking:
         say(f"{graph.path}: note: {len(lacking)} of {len(topology.links)} links have no weight in {path}, as the graph doesn't tell it: {', '.join(lacking[:8])}"
             f"{' and more' if len(lacking) > 8 else ''}")
@@ -165,7 +165,7 @@ def convert(words):
     lacking = [word for word, value in (("--hosts", options.hosts or options.external == "hosts"), ("--vlans", options.vlans), ("--tags", options.tags is not None),
                                         ("--capacity", options.capacity)) if not value]
     if lacking:
-        raise Refused(f"a graph doesn't say which hosts, VLANs, tags and capacities there are: {', '.join(lacking)} is wanting",
+        raise NotConverted(f"a graph doesn't say which hosts, VLANs, tags and capacities there are: {', '.join(lacking)} is wanting",
                       "as --hosts all --vlans untagged --tags 3000-3009 --capacity 1000; `planner from-graphml --help` explains them", 2)
     options.hosts = options.hosts or []
     graph = Graph(options.file)

@@ -6,7 +6,7 @@ switch with `eth1` (and `net` shows `lo` of a switch).
 import argparse
 import re
 
-from planner_tools.convert.common import MOST_CAPACITY, UNTAGGED, Refused, Topology, capacity, checked, name_list, nearest, read_text, run, say, tag_range, vlan_list
+from planner_tools.convert.common import MOST_CAPACITY, UNTAGGED, NotConverted, Topology, capacity, checked, name_list, nearest, read_text, run, say, tag_range, vlan_list
 
 PROMPT = re.compile(r"\s*mininet>\s*")
 WORDS = {"net", "links", "ports", "nodes", "dump"}
@@ -74,7 +74,7 @@ class Nodes:
         nodes = list(dict.fromkeys([*text.nodes, *(text.node_of(end) for end in self.ends if text.node_of(end))]))
         unknown = [name for name in hosts if name not in nodes]
         if unknown:
-            raise Refused([f"{text.path} has no node {name}{nearest(name, nodes)}" for name in unknown], status=2)
+            raise NotConverted([f"{text.path} has no node {name}{nearest(name, nodes)}" for name in unknown], status=2)
         joined = {text.node_of(end) for end in self.ends}
         with_zero = {text.node_of(end) for end in self.ends if end.endswith("-eth0")}
         is_switch = set(text.switches) if text.switches else joined - with_zero
@@ -115,7 +115,7 @@ def topology_of(text, options):
         if not bad:
             (links if len(at_switches) == 2 else hosts).extend([[(name, port) for name, port, _ in at_switches]] if at_switches else [])
     if faults:
-        raise Refused(faults)
+        raise NotConverted(faults)
     for pair in sorted(links, key=lambda pair: sorted((natural(name), port) for name, port in pair)):
         topology.add_link(*sorted(pair, key=lambda end: (natural(end[0]), end[1])))
     for [end] in sorted(hosts, key=lambda ends: (natural(ends[0][0]), ends[0][1])):

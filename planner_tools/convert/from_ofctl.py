@@ -10,7 +10,7 @@ import struct
 import tempfile
 
 from planner_tools import program
-from planner_tools.convert.common import BAD_FILE, REFUSED, UNREADABLE, WRONG_WORDS, Refused, nearest, read_text, run, say
+from planner_tools.convert.common import BAD_FILE, REFUSED, UNREADABLE, WRONG_WORDS, NotConverted, nearest, read_text, run, say
 from planner_tools.convert.flow_text import FlowText
 from planner_tools.switches.entries import Entry
 
@@ -73,7 +73,7 @@ def names_of(path):
     try:
         names = [one["name"] for one in json.loads(read_text(path))["switches"]]
     except (ValueError, TypeError, KeyError, RecursionError) as fault:
-        raise Refused(f"{path}: it is no topology", "docs/FORMATS.md has the members of one") from fault
+        raise NotConverted(f"{path}: it is no topology", "docs/FORMATS.md has the members of one") from fault
     return names
 
 
@@ -83,15 +83,15 @@ def read_tables(topology, given, may_drop):
     for word in given:
         switch, _, path = word.partition("=")
         if not switch or not path:
-            raise Refused(f"{word!r} isn't BRIDGE=FILE", status=2)
+            raise NotConverted(f"{word!r} isn't BRIDGE=FILE", status=2)
         if switch not in names:
-            raise Refused(f"{topology} has no switch {switch}{nearest(switch, names)}", "name the bridge as the topology does", 2)
+            raise NotConverted(f"{topology} has no switch {switch}{nearest(switch, names)}", "name the bridge as the topology does", 2)
         if switch in found:
-            raise Refused(f"{switch} is given twice", status=2)
+            raise NotConverted(f"{switch} is given twice", status=2)
         found[switch] = path
     missing = [name for name in names if name not in found]
     if missing:
-        raise Refused(f"no file is given for {', '.join(missing)}, and {topology} has {'it' if len(missing) == 1 else 'them'}",
+        raise NotConverted(f"no file is given for {', '.join(missing)}, and {topology} has {'it' if len(missing) == 1 else 'them'}",
                       f"give `{missing[0]}=FILE`, or `{missing[0]}=/dev/null` where its table is empty", WRONG_WORDS)
     return [Table(switch, path, may_drop) for switch, path in found.items()]
 
@@ -107,7 +107,7 @@ def refuse_faults(tables):
         then = "--drop-unsayable leaves them out: no IPv4 packet fares otherwise without them"
     elif droppable:
         then += f". --drop-unsayable leaves out {droppable} of them, without which no IPv4 packet fares otherwise"
-    raise Refused([*faults, f"{len(faults)} of the lines can't be said in a configuration: they stand above"], then, REFUSED)
+    raise NotConverted([*faults, f"{len(faults)} of the lines can't be said in a configuration: they stand above"], then, REFUSED)
 
 
 def other_of(entry, table, word):
@@ -149,11 +149,11 @@ def configuration(topology, tables):
             file.writelines(line for table in tables for line in table.messages())
         try:
             status, text = program.run("import", topology, replies)
-        except program.NoProgram as fault:
-            raise Refused(str(fault), status=program.NO_PROGRAM) from fault
+        except program.CannotRun as fault:
+            raise NotConverted(str(fault), status=program.NO_PROGRAM) from fault
     if status != 0:
         fault = import_fault(text, topology, tables)
-        raise Refused(fault.replace("bad topology:", f"{topology}: bad topology:"), status=status if status in (REFUSED, BAD_FILE, UNREADABLE, 9) else program.NO_PROGRAM)
+        raise NotConverted(fault.replace("bad topology:", f"{topology}: bad topology:"), status=status if status in (REFUSED, BAD_FILE, UNREADABLE, 9) else program.NO_PROGRAM)
     return text
 
 

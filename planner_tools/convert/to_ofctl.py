@@ -8,7 +8,7 @@ import os
 import shlex
 
 from planner_tools import program
-from planner_tools.convert.common import UNWRITABLE, Refused, read_text, run, say
+from planner_tools.convert.common import UNWRITABLE, NotConverted, read_text, run, say
 from planner_tools.proved import beside
 from planner_tools.switches.connections import Stop, address_words, listed_address
 from planner_tools.words import IN_FOLDER
@@ -25,7 +25,7 @@ def rounds_of(path):
             return [[(change["do"], change) for change in changes] for changes in plan["rounds"]]
         return [[(do, plan["rules"][rule]) for do, rule in changes] for changes in plan["rounds"]]
     except (ValueError, TypeError, KeyError, IndexError, RecursionError) as fault:
-        raise Refused(f"{path}: it is no plan", "`planner check` says what of it can't be read") from fault
+        raise NotConverted(f"{path}: it is no plan", "`planner check` says what of it can't be read") from fault
 
 
 def match_of(rule):
@@ -61,7 +61,7 @@ def refused(path):
         return None
     try:
         status, text = program.run("check", *files, path)
-    except program.NoProgram:
+    except program.CannotRun:
         say(note)
         return None
     if status == 0:
@@ -88,11 +88,11 @@ def read_targets(path):
     for number, line in enumerate(read_text(path).splitlines(), 1):
         words = line.split("#")[0].split()
         if words and not 2 <= len(words) <= 3:
-            raise Refused(f"{path}:{number}: not `NAME DATAPATH [HOST:PORT]`")
+            raise NotConverted(f"{path}:{number}: not `NAME DATAPATH [HOST:PORT]`")
         try:
             targets |= {words[0]: f"tcp:{address_words(listed_address(words[2], f'{path}:{number}'))}"} if len(words) == 3 else {}
         except Stop as stop:
-            raise Refused(stop.what, stop.then) from None
+            raise NotConverted(stop.what, stop.then) from None
     return targets
 
 
@@ -101,13 +101,13 @@ def write_scripts(folder, scripts):
     try:
         os.makedirs(folder, exist_ok=True)
         if os.listdir(folder):
-            raise Refused(f"{folder}: it has files already", "name another folder", UNWRITABLE)
+            raise NotConverted(f"{folder}: it has files already", "name another folder", UNWRITABLE)
         for name, text in scripts:
             with open(os.path.join(folder, name), "x", encoding="utf-8") as file:
                 file.write(text)
             os.chmod(file.name, 0o755)
     except OSError as fault:
-        raise Refused(f"{fault.filename or folder}: it can't be written: {fault.strerror}", status=UNWRITABLE) from fault
+        raise NotConverted(f"{fault.filename or folder}: it can't be written: {fault.strerror}", status=UNWRITABLE) from fault
 
 
 def convert(words):
@@ -124,7 +124,7 @@ def convert(words):
         why = refused(options.plan)
         scripts = [(f"round-{number:0{wide}}.sh", script_of(number, rounds, options.plan, targets, why)) for number in range(1, len(rounds) + 1)]
     except (KeyError, TypeError, AttributeError) as fault:
-        raise Refused(f"{options.plan}: a change of it can't be read", "`planner check` says what of it can't be read") from fault
+        raise NotConverted(f"{options.plan}: a change of it can't be read", "`planner check` says what of it can't be read") from fault
     folder = options.folder or f"{os.path.splitext(os.path.basename(options.plan))[0]}-rounds"
     write_scripts(folder, scripts)
     return "".join(f"{os.path.join(folder, name)}\n" for name, _ in scripts)

@@ -20,7 +20,7 @@ def main(words):
     try:
         built = files.program_to_install()
         places = files.put(options.prefix, program.ROOT, built, files.day_of(program.ROOT))
-    except program.NoProgram as fault:
+    except program.CannotRun as fault:
         print(f"planner install: {fault}", file=sys.stderr)
         return program.NO_PROGRAM
     except OSError as fault:

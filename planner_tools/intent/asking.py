@@ -6,7 +6,7 @@ import sys
 from planner_tools import network as nets
 from planner_tools import program
 from planner_tools.files import NotJson, read_json
-from planner_tools.proved import REFUSALS, Given, Run, Stop, inside
+from planner_tools.proved import REFUSALS, Given, Run, Unable, inside
 from planner_tools.voice import Voice
 from planner_tools.words import BY_NAME, Command
 
@@ -21,7 +21,7 @@ def files_of(name, typed):
     wanted, least = run.command.words()
     run.resolve()
     if len(run.files) < least or len(typed) > len(wanted):
-        raise Stop(f"{name}: the words are {usage}, and there are {'more' if len(typed) > len(wanted) else 'fewer'}", WRONG_WORDS, [f"planner {name} {BY_NAME[name].usage}"])
+        raise Unable(f"{name}: the words are {usage}, and there are {'more' if len(typed) > len(wanted) else 'fewer'}", WRONG_WORDS, [f"planner {name} {BY_NAME[name].usage}"])
     for file in run.files.values():
         file.kept = run.spooled          # what came from the standard input is there as long as this
     return run.files
@@ -35,7 +35,7 @@ def beside(folder, name):
 
 def asked(command, good=(0,), **files):
     """What the program writes for a command over files, which are given by the words of its usage. Where its status is no good one it is said why, and it is
-    Stop."""
+    Unable."""
     run = Run([command], REFUSALS)
     run.files = {word: file for word, file in files.items() if file is not None}
     run.passed = [command, *(file.real for file in run.files.values())]
@@ -43,7 +43,7 @@ def asked(command, good=(0,), **files):
     run.status, run.text = run.ask(*run.passed)
     if run.status not in good:
         run.safely(run.explain)
-        raise Stop(None, run.status if run.status >= 0 else 128 - run.status)
+        raise Unable(None, run.status if run.status >= 0 else 128 - run.status)
     return run.text
 
 
@@ -61,7 +61,7 @@ def json_of(file):
     try:
         return read_json(file.real, file.shown)
     except NotJson as fault:
-        raise Stop(f"{file.shown}: {fault.what}", BAD_FILE) from fault
+        raise Unable(f"{file.shown}: {fault.what}", BAD_FILE) from fault
 
 
 def text_of(file):
@@ -70,9 +70,9 @@ def text_of(file):
         with open(file.real, "rb") as source:
             return source.read().decode("utf-8-sig")
     except OSError as fault:
-        raise Stop(f"{file.shown}: {fault.strerror}", UNREAD) from fault
+        raise Unable(f"{file.shown}: {fault.strerror}", UNREAD) from fault
     except UnicodeDecodeError as fault:
-        raise Stop(f"{file.shown}: it is no text in UTF-8", BAD_FILE) from fault
+        raise Unable(f"{file.shown}: it is no text in UTF-8", BAD_FILE) from fault
 
 
 class Told(Voice):
@@ -94,7 +94,7 @@ def done(work, words):
     voice = Told(options)
     try:
         status, text = work(words, voice)
-    except Stop as stop:
+    except Unable as stop:
         if stop.args[0] is not None:     # otherwise what the program refused is said already
             voice.refuse(str(stop), stop.more)
         return stop.status

@@ -17,7 +17,7 @@ from planner_tools.files import counted
 from planner_tools.intent.asking import asked, done, files_of, network_of, rules_of
 from planner_tools.intent.classes import Beside, Paths, grouped, joined, prefixes, range_words, ranges, shortened, vlan_value, vlan_words
 from planner_tools.intent.lookup import Tables
-from planner_tools.proved import Given, Stop
+from planner_tools.proved import Given, Unable
 
 # What may become of a class, in the order in which it is told: the word for machines, and words of the count.
 KINDS = {"lost": "arrive no more", "gained": "arrive now and didn't", "elsewhere": "leave at another host port", "way": "go another way", "stopped": "are stopped elsewhere"}
@@ -247,7 +247,7 @@ def asked_silently(command, good, **files):
     """What the program writes. Nothing is said of another status."""
     status, text = program.run(command, *(file.real for file in files.values()))
     if status not in good:
-        raise Stop(None, status)
+        raise Unable(None, status)
     return text
 
 
@@ -257,7 +257,7 @@ def summary(topology, old, new, policy, most=SUMMARY):
     files = {word: Given(path, path) for word, path in (("TOPO", topology), ("OLD", old), ("NEW", new), ("POLICY", policy))}
     try:
         return difference(files, asked_silently).lines(network_of(files["TOPO"]), policy, most)
-    except (Stop, OSError):
+    except (Unable, OSError):
         return []
 
 

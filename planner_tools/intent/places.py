@@ -1,6 +1,6 @@
 """Links and switches as people name them: a link by one of its ends (`s1:2`) or by its switches (`s1-s2`), a switch by its name."""
 from planner_tools.files import did_you_mean
-from planner_tools.proved import Stop
+from planner_tools.proved import Unable
 
 WRONG_WORDS = 2
 
@@ -30,15 +30,15 @@ class Places:
                 self.between.setdefault(f"{switch_of(one)}-{switch_of(other)}", []).append(link)
 
     def named(self, word):
-        """The links, or the one switch, that a word names: a list of links and a list of switches. A word that names none is Stop."""
+        """The links, or the one switch, that a word names: a list of links and a list of switches. A word that names none is Unable."""
         switches, links = [word] if word in self.network.numbers else [], []
         if not switches:
             links = [self.by_end[word]] if word in self.by_end else list(dict.fromkeys(self.between.get(word, [])))
         if not switches and not links:
-            raise Stop(f"the network has neither a link nor a switch {word}{did_you_mean(word, [*self.network.numbers, *self.by_end, *self.between])}", WRONG_WORDS,
+            raise Unable(f"the network has neither a link nor a switch {word}{did_you_mean(word, [*self.network.numbers, *self.by_end, *self.between])}", WRONG_WORDS,
                        ["a link is named by an end of it, as s1:2, or by its switches, as s1-s2; a switch by its name"])
         if len({tuple(sorted(map(switch_of, link))) for link in links}) > 1:
-            raise Stop(f"{word} names links between several pairs of switches", WRONG_WORDS, [f"name one of their ends: {', '.join(end for link in links for end in link)}"])
+            raise Unable(f"{word} names links between several pairs of switches", WRONG_WORDS, [f"name one of their ends: {', '.join(end for link in links for end in link)}"])
         return links, switches
 
 

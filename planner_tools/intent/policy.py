@@ -21,7 +21,7 @@ from planner_tools import network as nets
 from planner_tools.files import counted, did_you_mean
 from planner_tools.intent.asking import asked, done, files_of, network_of
 from planner_tools.intent.classes import Beside, Paths, blocks, grouped, prefix_text, range_words, ranges, vlan_value, vlan_words
-from planner_tools.proved import Given, Stop
+from planner_tools.proved import Given, Unable
 
 WRONG_WORDS, REFUSED = 2, 1
 MOST_DEMANDS, LONGEST_CHAIN = 512, 16
@@ -195,17 +195,17 @@ def named_switches(given, network):
     names = [name for one in given for name in one.split(",") if name]
     for name in names:
         if name not in network.numbers:
-            raise Stop(f"--through {name}: the network has no such switch{did_you_mean(name, network.numbers)}", WRONG_WORDS)
+            raise Unable(f"--through {name}: the network has no such switch{did_you_mean(name, network.numbers)}", WRONG_WORDS)
     return frozenset(names)
 
 
 def kept_and_left(demands, most, both):
     """The demands that are written, and those that are left out as there would be too many: of these each speaks of no more classes than any that is written.
-    Where it isn't said how many there may be, too many are Stop."""
+    Where it isn't said how many there may be, too many are Unable."""
     if len(demands) <= (most or MOST_DEMANDS):
         return demands, []
     if most is None:
-        raise Stop(f"it takes {len(demands)} demands, and a policy has at most {MOST_DEMANDS}: nothing is written", REFUSED,
+        raise Unable(f"it takes {len(demands)} demands, and a policy has at most {MOST_DEMANDS}: nothing is written", REFUSED,
                    ["Next: ask with --changed for the classes alone whose paths differ, or with --most N for the N demands that speak of most classes"])
     order = sorted(range(len(demands)), key=lambda at: (-classes_of(demands[at], both), at))
     kept = set(order[:most])

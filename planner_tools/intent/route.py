@@ -29,7 +29,7 @@ from planner_tools.intent.asking import BAD_FILE, asked, beside, done, files_of,
 from planner_tools.intent.classes import Paths, shortened
 from planner_tools.intent.links import Load, use_words
 from planner_tools.intent.places import Places, link_words, links_of, switch_of
-from planner_tools.proved import Given, Stop
+from planner_tools.proved import Given, Unable
 
 # The priority of rules where CONFIG says none, and the least and the greatest that a configuration may have.
 PRIORITY, LEAST, GREATEST = 100, 1, 16383
@@ -57,14 +57,14 @@ def prefixes_of(file, network):
     found = {}
     for where, (dst, *hosts) in lines_of(file):
         if nets.prefix(dst) is None:
-            raise Stop(f"{where}: {dst} is no prefix{right_prefix(dst)}", BAD_FILE, ["a line has a prefix and a host port, as 10.0.0.0/24 s4:3"])
+            raise Unable(f"{where}: {dst} is no prefix{right_prefix(dst)}", BAD_FILE, ["a line has a prefix and a host port, as 10.0.0.0/24 s4:3"])
         if dst in found:
-            raise Stop(f"{where}: {dst} stands twice", BAD_FILE)
+            raise Unable(f"{where}: {dst} stands twice", BAD_FILE)
         if not hosts:
-            raise Stop(f"{where}: the host port where {dst} leaves is missing", BAD_FILE, ["a line has a prefix and a host port, as 10.0.0.0/24 s4:3"])
+            raise Unable(f"{where}: the host port where {dst} leaves is missing", BAD_FILE, ["a line has a prefix and a host port, as 10.0.0.0/24 s4:3"])
         for host in hosts:
             if host not in network.hosts:
-                raise Stop(f"{where}: the network has no host port {host}{did_you_mean(host, network.hosts)}", BAD_FILE)
+                raise Unable(f"{where}: the network has no host port {host}{did_you_mean(host, network.hosts)}", BAD_FILE)
         found[dst] = hosts
     return found
 
@@ -83,7 +83,7 @@ def weights_of(file, network, voice):
     links, found = {end: link for link in links_of(network) for end in link}, {}
     for where, words in lines_of(file):
         if len(words) != 3 or links.get(words[0]) != links.get(words[1]) or words[0] == words[1] or words[0] not in links:
-            raise Stop(f"{where}: it isn't the two ends of a link, and its weight", BAD_FILE, ["a line is like: s1:2 s2:1 40.5"])
+            raise Unable(f"{where}: it isn't the two ends of a link, and its weight", BAD_FILE, ["a line is like: s1:2 s2:1 40.5"])
         found[links[words[0]]] = weight_of(words[2], where)
     lacking = [link for link in links_of(network) if link not in found]
     if lacking and found:
@@ -98,7 +98,7 @@ def weight_of(text, where):
     except decimal.InvalidOperation:
         thousandths = 0
     if thousandths < 1:
-        raise Stop(f"{where}: {text} is no weight", BAD_FILE, [f"a weight is a decimal number from 0.001 to {MOST_WEIGHT}"])
+        raise Unable(f"{where}: {text} is no weight", BAD_FILE, [f"a weight is a decimal number from 0.001 to {MOST_WEIGHT}"])
     return thousandths
 
 
@@ -248,7 +248,7 @@ class Priorities:
         mine = nets.prefix(dst)
         low, high = self.bounds(*self.at_switch.get(switch, ({}, [])), *mine)
         if low + 1 >= high:
-            raise Stop(f"at {switch} no priority is left for {dst}: it would have to lie above {low} and below {high}", BAD_FILE, ["make room between the priorities of CONFIG"])
+            raise Unable(f"at {switch} no priority is left for {dst}: it would have to lie above {low} and below {high}", BAD_FILE, ["make room between the priorities of CONFIG"])
         wanted, between = most_common(self.of_prefix.get(dst) or self.all), (low + high) // 2
         return wanted if low < wanted < high else min(low + GAP, between) if wanted <= low else between
 

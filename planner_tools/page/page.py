@@ -14,7 +14,7 @@ import tempfile
 from planner_tools import program
 from planner_tools.page.layout import layout
 from planner_tools.page.values import Files
-from planner_tools.page.verdict import Refused, driven, traces, verdict, verdict_of_configuration
+from planner_tools.page.verdict import NoVerdict, driven, traces, verdict, verdict_of_configuration
 from planner_tools.proved import Names, say_why
 
 HERE = os.path.dirname(os.path.realpath(__file__))
@@ -103,11 +103,11 @@ def main(words):
     asked.schedule = names.real(asked.schedule) if asked.schedule else None
     try:
         text = page(values_of(asked, names))
-    except Refused as fault:
+    except NoVerdict as fault:
         print(fault, file=sys.stderr)
         say_why(*map(names.given, words_of_refused(asked, str(fault))), good=(0, 1))
         return fault.status
-    except program.NoProgram as fault:
+    except program.CannotRun as fault:
         print(fault, file=sys.stderr)
         return program.NO_PROGRAM
     except OSError as fault:

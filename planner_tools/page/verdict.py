@@ -8,7 +8,7 @@ HOLDS = "No packet comes to a switch twice, each that leaves has met its waypoin
 YES, NO, NO_RUN = 0, 1, 8
 
 
-class Refused(Exception):
+class NoVerdict(Exception):
     """The planner gave no verdict: what it said instead, and its status."""
 
     def __init__(self, text, status):
@@ -21,7 +21,7 @@ def ask(planner, *words):
     try:
         done = subprocess.run([planner, *words], stdout=subprocess.PIPE, text=True, check=False)
     except OSError as fault:
-        raise Refused(f"the planner can't be run: {fault}", 125) from fault
+        raise NoVerdict(f"the planner can't be run: {fault}", 125) from fault
     return done.returncode, done.stdout.splitlines()
 
 
@@ -29,7 +29,7 @@ def verdict(planner, files):
     """Returns the planner's line on an update, with a sentence and the parts of the line."""
     status, lines = ask(planner, "check", *files)
     if status not in (YES, NO):
-        raise Refused("\n".join(lines) or f"planner check ended with status {status}", status)
+        raise NoVerdict("\n".join(lines) or f"planner check ended with status {status}", status)
     sentence, reason = sentence_of(lines[0])
     return {"accepted": status == YES, "line": lines[0], "sentence": sentence, "reason": reason}
 
@@ -38,7 +38,7 @@ def verdict_of_configuration(planner, files):
     """Returns the planner's line on a configuration, with a sentence and the parts of the line."""
     status, lines = ask(planner, "config", *files)
     if status not in (YES, NO):
-        raise Refused("\n".join(lines) or f"planner config ended with status {status}", status)
+        raise NoVerdict("\n".join(lines) or f"planner config ended with status {status}", status)
     if status == YES:
         return {"accepted": True, "line": lines[0], "sentence": HOLDS, "reason": {}}
     # `check` says the same of a configuration that breaks, with the name and the end of an update before it.
@@ -53,7 +53,7 @@ def driven(planner, update, record):
             return served(planner, update, record)
     status, lines = ask(planner, "drive", *update, record)
     if status != YES:
-        raise Refused("\n".join(lines) or f"planner drive ended with status {status}", status)
+        raise NoVerdict("\n".join(lines) or f"planner drive ended with status {status}", status)
     return "".join(f"{line}\n" for line in lines if not line.startswith("# sent "))
 
 
@@ -63,10 +63,10 @@ def served(planner, update, record):
         done = subprocess.run([planner, "serve", *update], stdin=lines, stdout=subprocess.PIPE, text=True, errors="replace", check=False)
     told = done.stdout.splitlines()
     if done.returncode != YES:
-        raise Refused("\n".join(told) or f"planner serve ended with status {done.returncode}", done.returncode)
+        raise NoVerdict("\n".join(told) or f"planner serve ended with status {done.returncode}", done.returncode)
     events = [line for line in told if line.split(" ")[0] in ("start", "back", "change", "undo", "settle")]
     if any(line.split(" ")[0] in ("back", "undo") for line in events):
-        raise Refused(f"{record} is of an update that was turned back: its events are no schedule, and no page plays them", NO)
+        raise NoVerdict(f"{record} is of an update that was turned back: its events are no schedule, and no page plays them", NO)
     return "".join(f"{line}\n" for line in [*events, told[-1].replace("ok ", "# ", 1)])
 
 
@@ -74,5 +74,5 @@ def traces(planner, topology, old, plan, schedule):
     """Returns what the planner says of a recorded run: a line for each packet and one for the whole, or the line of the first event that can't be."""
     status, lines = ask(planner, "replay", topology, old, plan, schedule)
     if status not in (YES, NO_RUN):
-        raise Refused("\n".join(lines) or f"planner replay ended with status {status}", status)
+        raise NoVerdict("\n".join(lines) or f"planner replay ended with status {status}", status)
     return {"run": status == YES, "answers": lines}

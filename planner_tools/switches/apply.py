@@ -251,7 +251,7 @@ def is_ended_by_warnings(options: argparse.Namespace, how: How) -> bool:
     """Says the warnings about the files. Whether they are the end; nothing was done by then."""
     try:
         _, is_ended = look(how, "check", options.topology, options.old, options.new, options.policy, options.plan)
-    except program.NoProgram:
+    except program.CannotRun:
         return False         # that is said where the program is begun
     if is_ended:
         say(f"stopped: there are warnings, and --strict is given; nothing was sent{' in this run' if options.resume else ''}. Next: correct what they name, or leave out --strict")

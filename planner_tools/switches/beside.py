@@ -11,7 +11,7 @@ def path() -> str:
     """The path of the program. Stop where there is none."""
     try:
         return program.path()
-    except program.NoProgram as fault:
+    except program.CannotRun as fault:
         raise not_run(fault) from None
 
 

@@ -287,7 +287,7 @@ def main(words):
         events.tell("stopped", what=stop.what, far="nothing was sent", next=stop.then)
         say(stop.line())
         return stop.status
-    except program.NoProgram as fault:
+    except program.CannotRun as fault:
         say(f"stopped: {fault}. Nothing was sent")
         return program.NO_PROGRAM
     except KeyboardInterrupt as why:
