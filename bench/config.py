@@ -1,26 +1,32 @@
 #!/usr/bin/env python3
 """Times `config` on the greatest files that it takes: a topology of 128 switches with 64 used ports each, filled up to
 16 MiB; 2048 rules; 8192 classes. Prints time and memory; tests nothing."""
+from __future__ import annotations
+
 import json
 import pathlib
 import tempfile
 
 import measure
 
+TYPE_CHECKING = False
+if TYPE_CHECKING:
+    from typing import Any
+
 LIMIT = 16 * 2**20
 
 
-def filled(value):
+def filled(value: dict[str, Any]) -> str:
     """The JSON text of the value, filled up to the limit with a member that is ignored."""
     text = json.dumps({**value, "comment": ""})
     return text[:-2] + "x" * (LIMIT - len(text)) + '"}'
 
 
-def switches(count, capacity):
+def switches(count: int, capacity: int) -> list[dict[str, Any]]:
     return [{"name": f"switch-{i}", "capacity": capacity} for i in range(count)]
 
 
-def ring_of_many_ports():
+def ring_of_many_ports() -> dict[str, Any]:
     """128 switches, each with 62 host ports and two links; the classes are too many, so one host a switch is kept as
     a host and the others are links from a switch to the one half way round."""
     names = [f"switch-{i}" for i in range(128)]
@@ -31,7 +37,7 @@ def ring_of_many_ports():
     return {"switches": switches(128, 8192), "links": links, "hosts": hosts, "vlans": ["untagged"], "tags": [3000, 3009]}
 
 
-def trees(prefixes):
+def trees(prefixes: int) -> dict[str, Any]:
     """A rule for each prefix at each switch: round the ring to the switch where it leaves."""
     rules = []
     for i in range(128):
@@ -41,7 +47,7 @@ def trees(prefixes):
     return {"rules": rules}
 
 
-def main():
+def main() -> None:
     with tempfile.TemporaryDirectory() as name:
         folder = pathlib.Path(name)
         (folder / "topology.json").write_text(filled(ring_of_many_ports()))

@@ -2,6 +2,8 @@
 """Times `paths` beside `config` over the same files: a ring of 128 switches with 8192 classes and long paths, without a policy, under
 the most demands that cover every class, and under the most that cover none. Prints time and memory, how many times the time of
 `config` the time of `paths` is, and the time to write as long a text; tests nothing."""
+from __future__ import annotations
+
 import json
 import pathlib
 import tempfile
@@ -9,11 +11,15 @@ import time
 
 import measure
 
+TYPE_CHECKING = False
+if TYPE_CHECKING:
+    from typing import Any, Sequence
+
 PREFIXES = 15
 VLANS = 4
 
 
-def ring():
+def ring() -> Any:
     """128 switches in a ring, with a host port each: 16 ranges of addresses and four VLANs make 8192 classes."""
     names = [f"switch-{i}" for i in range(128)]
     links = [[f"{names[i]}:1", f"{names[(i + 1) % 128]}:2"] for i in range(128)]
@@ -21,7 +27,7 @@ def ring():
             "vlans": list(range(1, VLANS + 1)), "tags": []}
 
 
-def round_the_ring():
+def round_the_ring() -> Any:
     """A rule for each prefix at each switch: round the ring to the switch where it leaves."""
     rules = []
     for i in range(128):
@@ -29,18 +35,18 @@ def round_the_ring():
     return {"rules": rules}
 
 
-def demands(vlans):
+def demands(vlans: Sequence[int]) -> Any:
     """512 demands of all addresses: from each switch one with each of four VLANs."""
     return {"demands": [{"from": f"switch-{i}:3", "vlan": vlan, "dst": "0.0.0.0/0"} for i in range(128) for vlan in vlans]}
 
 
-def timed(title, words, folder):
+def timed(title: str, words: Sequence[str], folder: pathlib.Path) -> Any:
     before = time.monotonic()
     text = measure.run(title, words, folder)
     return time.monotonic() - before, text
 
 
-def compare(title, words, folder):
+def compare(title: str, words: Sequence[str], folder: pathlib.Path) -> None:
     """Runs both commands over the same files."""
     config, _ = timed(f"{title}, config", ["config", *words], folder)
     paths, text = timed(f"{title}, paths", ["paths", *words], folder)
@@ -49,7 +55,7 @@ def compare(title, words, folder):
     print(f"{title}: paths takes {paths / config:.1f} times as long as config; a file of its text is written in {time.monotonic() - before:.3f} s")
 
 
-def main():
+def main() -> None:
     with tempfile.TemporaryDirectory() as name:
         folder = pathlib.Path(name)
         (folder / "topology.json").write_text(json.dumps(ring()))

@@ -1,9 +1,16 @@
 """Updates by which the speed of the planner is told: the files of each, and the words of the run that is timed."""
+from __future__ import annotations
+
 import ipaddress
 import json
 import random
 
 from rings import Ring
+
+TYPE_CHECKING = False
+if TYPE_CHECKING:
+    import pathlib
+    from typing import Any, Callable, Sequence
 
 CONFIG = ["config", "topology.json", "config.json"]
 PLAN = ["plan", "topology.json", "old.json", "new.json", "policy.json"]
@@ -14,7 +21,7 @@ EXPLAIN = ["explain", *CHECK[1:]]
 GREATEST_FILE = 16 * 2**20
 
 
-def compact(value):
+def compact(value: dict[str, Any] | Sequence[Sequence[int | str]]) -> str:
     """The JSON text of a value, without white space."""
     return json.dumps(value, separators=(",", ":"))
 
@@ -23,29 +30,29 @@ class Workload:
     """The words of a run and its files, by their names without `.json`: values, or texts as they are. A plan that is read is made by
     the planner where it isn't among them."""
 
-    def __init__(self, words, **files):
+    def __init__(self, words: Sequence[str], **files: dict[str, Any] | str) -> None:
         self.words, self.files = words, files
 
-    def needs_plan(self):
+    def needs_plan(self) -> bool:
         return "plan.json" in self.words and "plan" not in self.files
 
-    def write(self, folder):
+    def write(self, folder: pathlib.Path) -> None:
         for name, value in self.files.items():
             (folder / f"{name}.json").write_text(value if isinstance(value, str) else compact(value))
 
 
-def updating(words, topology, old, new, policy):
+def updating(words: Sequence[str], topology: dict[str, Any], old: dict[str, list[dict[str, Any]]], new: dict[str, list[dict[str, Any]]], policy: dict[str, list[dict[str, Any]]]) -> Workload:
     return Workload(words, topology=topology, old=old, new=new, policy=policy)
 
 
 # ---- plans that are written here
 
-def moves(word, numbers):
+def moves(word: str, numbers: range | Sequence[int]) -> str:
     """The text of a round: one change of each of the plan's rules with these numbers."""
     return compact([[word, i] for i in numbers])
 
 
-def plan_text(rules, rounds, classes, numbering):
+def plan_text(rules: Sequence[dict[str, Any]], rounds: Sequence[str], classes: int, numbering: Sequence[int]) -> str:
     """An ordered plan in format 2, with rounds that are texts already. The one numbering serves so many classes in all rounds."""
     head = compact({"format": 2, "kind": "ordered", "rules": rules, "uses": [[0, []]], "picks": [[1, c, 0] for c in range(classes)],
                     "numberings": [numbering], "befores": []})
@@ -54,21 +61,27 @@ def plan_text(rules, rounds, classes, numbering):
 
 # ---- rings
 
-def turned_ring(words, switches, destinations):
+def turned_ring(words: Sequence[str], switches: int, destinations: int) -> Workload:
     """All packets go round a ring in one direction, and then in the other; each switch has a destination at home."""
     ring = Ring(switches, destinations)
     return updating(words, ring.topology(), ring.config(2), ring.config(3), ring.policy())
 
 
-def reversed_ring(switches):
+class OneHome(Ring):
+    """A ring all of whose destinations leave at one switch."""
+
+    def home(self, destination: int) -> int:
+        return 0
+
+
+def reversed_ring(switches: int) -> Workload:
     """All destinations leave at one switch, and only the last of the switches that remain can turn."""
-    ring = Ring(switches, 16)
-    ring.home = lambda destination: 0
+    ring = OneHome(switches, 16)
     demands = [{"from": f"r{i}:1", "dst": "10.0.0.0/20", "deliver": True} for i in range(1, switches)]
     return updating(PLAN, ring.topology(), ring.config(3), ring.config(2), {"demands": demands})
 
 
-def tagged_ring():
+def tagged_ring() -> Workload:
     """A two-phase plan of a ring with 64 VLANs and 16 destinations: about 8000 classes."""
     ring = Ring(128, 16, hosts=range(7), vlans=range(1, 65), tags=(3000, 3063), capacity=8192)
     return Workload(CHECK, topology=ring.topology(), old=ring.config(2), new=ring.config(3), policy={"demands": []}, plan=ring.two_phase_plan())
@@ -81,11 +94,11 @@ OLD = {"s": 2, "x": 2, "w": 2, "y": 2, "d": 3}
 NEW = {"s": 3, "x": 3, "w": 1, "y": 1, "d": 3}
 
 
-def detours(count, priority=lambda i: 100):
+def detours(count: int, priority: Callable[..., Any] = lambda i: 100) -> tuple[dict[str, Any], Any, Any, Any]:
     """Traffic to each of so many prefixes passes w in the one direction, and then in the other; no single change is safe."""
     prefixes = [f"10.{i // 256}.{i % 256}.0/24" for i in range(count)]
 
-    def config(ports):
+    def config(ports: dict[str, int]) -> dict[str, list[dict[str, Any]]]:
         return {"rules": [{"switch": s, "priority": priority(i), "dst": p, "out": out} for s, out in ports.items() for i, p in enumerate(prefixes)]}
 
     topology = {"switches": [{"name": s, "capacity": 8192} for s in OLD], "links": LINKS, "hosts": ["s:1", "d:3"],
@@ -97,41 +110,41 @@ def detours(count, priority=lambda i: 100):
 
 # ---- one switch
 
-def one_switch(vlans):
+def one_switch(vlans: Sequence[int | str]) -> dict[str, Any]:
     return {"switches": [{"name": "s0", "capacity": 8192}], "links": [], "hosts": [f"s0:{port}" for port in range(1, 65)], "vlans": vlans, "tags": []}
 
 
-def rules_by_port(count, priority):
+def rules_by_port(count: int, priority: Callable[..., Any]) -> list[dict[str, Any]]:
     """So many rules of one switch, each for a port and a VLAN of its own."""
     return [{"switch": "s0", "priority": priority(i), "in_port": 1 + i % 64, "vlan": 1 + i // 64, "dst": "128.0.0.0/1", "out": 1 + (i + 1) % 64} for i in range(count)]
 
 
-def next_port(rule):
+def next_port(rule: dict[str, Any]) -> dict[str, Any]:
     """Another port to send to, which is not the one that the packets come from."""
     out = 1 + (rule["out"] + 1) % 64
     return {**rule, "out": out if out != rule["in_port"] else 1 + out % 64}
 
 
-def replaced_rules(words, count):
+def replaced_rules(words: Sequence[str], count: int) -> Workload:
     """Rules of equal priority at one switch, each replaced."""
     old = rules_by_port(count, lambda i: 100)
     vlans = list(range(1, 2 + (count - 1) // 64))
     return updating(words, one_switch(vlans), {"rules": old}, {"rules": [next_port(rule) for rule in old]}, {"demands": []})
 
 
-def rekeyed_rules(count):
+def rekeyed_rules(count: int) -> Workload:
     """Rules of one switch that all give way to rules of other priorities: twice as many changes."""
     topology = {**one_switch(["untagged"]), "hosts": ["s0:1", "s0:2"]}
     rules = [[{"switch": "s0", "priority": first + i, "dst": "10.0.0.0/24", "out": out} for i in range(count)] for first, out in ((1, 1), (3001, 2))]
     return updating(PLAN, topology, {"rules": rules[0]}, {"rules": rules[1]}, {"demands": []})
 
 
-def rules_for_all():
+def rules_for_all() -> list[dict[str, Any]]:
     """1024 rules of one switch and one priority, one for each of 64 ports and 16 VLANs."""
     return [{**rule, "dst": "0.0.0.0/0"} for rule in rules_by_port(1024, lambda i: 100)]
 
 
-def touching(rules, turns, rounds):
+def touching(rules: Sequence[dict[str, Any]], turns: Sequence[str], rounds: int) -> Workload:
     """The check of a plan that takes turns with two rounds, at a switch with the rules of `rules_for_all`. Each of 8192 classes is covered by one of
     them: the demands tell eight ranges of addresses apart."""
     config = {"rules": rules_for_all()}
@@ -140,7 +153,7 @@ def touching(rules, turns, rounds):
     return Workload(CHECK, topology=one_switch(list(range(1, 17))), old=config, new=config, policy=policy, plan=plan)
 
 
-def replaced_together(rounds):
+def replaced_together(rounds: int) -> Workload:
     """Rounds that each replace all of the rules."""
     old = rules_for_all()
     count = len(old)
@@ -148,7 +161,7 @@ def replaced_together(rounds):
     return touching(old + [next_port(rule) for rule in old], turns, rounds)
 
 
-def two_below_all(rounds):
+def two_below_all(rounds: int) -> Workload:
     """Rounds of two changes, by which rules below the others come and go that cover all packets."""
     rules = [{"switch": "s0", "priority": priority, "dst": "0.0.0.0/0", "out": "drop"} for priority in (1, 2)]
     return touching(rules, [moves(word, [0, 1]) for word in ("insert", "delete")], rounds)
@@ -156,7 +169,7 @@ def two_below_all(rounds):
 
 # ---- rules that no packet meets
 
-def unmet(switches, rules, rounds):
+def unmet(switches: int, rules: Sequence[dict[str, Any]], rounds: Sequence[str]) -> Workload:
     """The check of a plan with these rounds, in a network where the first rule drops each packet. There are eight classes at most."""
     topology = {"switches": [{"name": f"r{i}", "capacity": 8192} for i in range(switches)], "links": [], "hosts": ["r0:1", "r0:2"],
                 "vlans": ["untagged"], "tags": []}
@@ -165,25 +178,25 @@ def unmet(switches, rules, rounds):
     return Workload(CHECK, topology=topology, old=config, new=config, policy={"demands": []}, plan=plan)
 
 
-def ranked_rules(count, switches):
+def ranked_rules(count: int, switches: int) -> list[dict[str, Any]]:
     """So many rules, spread over the switches. Those of a switch have priorities of their own, and one prefix."""
     return [{"switch": f"r{i % switches}", "priority": 1 + i // switches, "dst": "10.0.0.0/24", "out": "drop"} for i in range(count)]
 
 
-def two_kinds(count):
+def two_kinds(count: int) -> list[dict[str, Any]]:
     """So many rules of one switch and one priority, in turns for a VLAN and the lower half of the addresses, and for an ingress port and the upper
     half. No two of them cover a common packet, but the addresses alone don't tell those of a kind apart."""
     tests = [({"vlan": 1 + i // 2, "dst": "0.0.0.0/1"}, {"in_port": 1 + i // 2, "dst": "128.0.0.0/1"})[i % 2] for i in range(count)]
     return [{"switch": "r0", "priority": 100, "out": "drop", **test} for test in tests]
 
 
-def toggled_rules(rounds, rules, switches=1):
+def toggled_rules(rounds: int, rules: Sequence[dict[str, Any]], switches: int = 1) -> Workload:
     """A plan in which the rules come in each odd round and go in each even one."""
     texts = [moves(word, range(len(rules))) for word in ("insert", "delete")]
     return unmet(switches, rules, [texts[k % 2] for k in range(rounds)])
 
 
-def grown_table(rounds, rules):
+def grown_table(rounds: int, rules: Sequence[dict[str, Any]]) -> Workload:
     """A plan whose first round makes a table of more rules than a configuration may have, and whose last one takes it away. In the rounds between,
     so many, the last two rules go and come in turns."""
     count = len(rules)
@@ -191,12 +204,12 @@ def grown_table(rounds, rules):
     return unmet(1, rules, [moves("insert", range(count)), *(turns[k % 2] for k in range(rounds)), moves("delete", range(count))])
 
 
-def rules_apart(count):
+def rules_apart(count: int) -> list[dict[str, Any]]:
     """So many rules of one switch, one priority and one prefix, each for an ingress port and a VLAN of its own."""
     return [{"switch": "r0", "priority": 100, "in_port": 1 + i // 4000, "vlan": 1 + i % 4000, "dst": "10.0.0.0/24", "out": "drop"} for i in range(count)]
 
 
-def clashing_round(count):
+def clashing_round(count: int) -> Workload:
     """A round of so many inserts at one switch. The last two rules have one priority and cover common packets, and no others do. That they are more
     than the switch can hold is a later reason to refuse them."""
     rules = rules_apart(count)
@@ -204,14 +217,14 @@ def clashing_round(count):
     return unmet(1, rules, [moves("insert", range(count))])
 
 
-def repeating_round(count):
+def repeating_round(count: int) -> Workload:
     """A round of so many inserts at one switch. The last one is the one before once more, and all others name entries of their own."""
     return unmet(1, rules_apart(count - 1), [moves("insert", [*range(count - 1), count - 2])])
 
 
 # ---- many classes
 
-def idle_rounds(rounds):
+def idle_rounds(rounds: int) -> Workload:
     """Rounds of one change that few packets meet, over about 7900 classes with long paths."""
     ring = Ring(128, 15)
     quarters = [f"10.0.{j}.{64 * q}" for j in range(15) for q in range(4)]
@@ -226,10 +239,10 @@ def idle_rounds(rounds):
     return Workload(CHECK, topology=ring.topology(), old=config, new=config, policy=policy, plan=plan)
 
 
-def chains(words, classes):
+def chains(words: Sequence[str], classes: int) -> Workload:
     """A line of 128 switches with so many classes, and 512 chains of 16 waypoints that each packet meets."""
     dice = random.Random(1)
-    found = set()
+    found: set[tuple[int, ...]] = set()
     while len(found) < 512:
         found.add(tuple(sorted(dice.sample(range(128), 16))))
     topology = {"switches": [{"name": f"r{i}", "capacity": 8192} for i in range(128)], "links": [[f"r{i}:2", f"r{i + 1}:3"] for i in range(127)],
@@ -242,7 +255,7 @@ def chains(words, classes):
     return updating(words, topology, {"rules": rules}, {"rules": rules + more}, {"demands": demands})
 
 
-def parallel_links(switches, rules):
+def parallel_links(switches: int, rules: int) -> Workload:
     """A line of switches with 31 links each to the next, and so many rules at each that send over them; in the one round a packet may meet any. From
     31 hosts come about 8000 classes."""
     names = [f"r{i}" for i in range(switches + 1)]
@@ -251,14 +264,14 @@ def parallel_links(switches, rules):
                 "vlans": ["untagged"], "tags": [3000, 3000]}
     sending = [{"switch": names[i], "priority": 1 + p, "dst": "10.0.0.0/24", "out": 1 + p % 31} for i in range(switches) for p in range(rules)]
     plan = plan_text(sending, [moves(word, range(len(sending))) for word in ("insert", "delete")], 31 * 258, list(range(switches, -1, -1)))
-    nothing = {"rules": []}
+    nothing: dict[str, Any] = {"rules": []}
     policy = {"demands": [{"dst": f"10.0.0.{p}/32"} for p in range(255)]}
     return Workload(CHECK, topology=topology, old=nothing, new=nothing, policy=policy, plan=plan)
 
 
 # ---- runs that break a policy
 
-def either_way(switches, rounds):
+def either_way(switches: int, rounds: int) -> Workload:
     """A ring with many hosts at its first switch, from which packets go up the ring before a round and down after it, or the other way round. The
     switches behind it send each packet on the way that it came, so none comes to a switch twice, though some go from each of these switches to the
     next one and others from that one back. For other addresses the rules lead round the whole ring, but send on only packets that come from the
@@ -266,7 +279,7 @@ def either_way(switches, rounds):
     ring, last = Ring(switches, 0), switches - 1
     topology = {**ring.topology(), "hosts": [*(f"r0:{port}" for port in range(10, 72)), "r1:1", f"r{last}:1"]}
 
-    def rule(switch, dst, out, **test):
+    def rule(switch: int, dst: str, out: int, **test: int) -> dict[str, Any]:
         return {"switch": f"r{switch}", "priority": 100, "dst": dst, "out": out, **test}
 
     up = [rule(i, "10.0.0.0/8", 2 if i < last else 1, in_port=3) for i in range(1, switches)]
@@ -282,13 +295,13 @@ def either_way(switches, rounds):
 
 # ---- long files
 
-def filled(value):
+def filled(value: dict[str, Any]) -> str:
     """The text of the value, filled up to the greatest size with a member that is ignored."""
     text = json.dumps({**value, "comment": ""})
     return text[:-2] + "x" * (GREATEST_FILE - len(text)) + '"}'
 
 
-def long_files():
+def long_files() -> Workload:
     """A topology of 128 switches with 64 used ports each and a configuration of 2048 rules, both filled up to the limit."""
     names = [f"switch-{i}" for i in range(128)]
     links = [[f"{names[i]}:1", f"{names[(i + 1) % 128]}:2"] for i in range(128)]

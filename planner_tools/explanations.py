@@ -2,6 +2,8 @@
 
 The sentences are made from the program's own text, its status, and the files. What the program says counts.
 """
+from __future__ import annotations
+
 import json
 import os
 import re
@@ -10,6 +12,16 @@ from planner_tools import network as nets
 from planner_tools import program
 from planner_tools.files import NotJson, counted, did_you_mean, like, member_path, read_json, short
 from planner_tools.words import CHOICES
+
+TYPE_CHECKING = False
+if TYPE_CHECKING:
+    from typing import Any, Sequence
+
+    from planner_tools.files import Json, Text
+    from planner_tools.network import Network
+    from planner_tools.proved import Run
+    from planner_tools.report import Asking
+    from planner_tools.voice import Voice
 
 # Which word of a command a kind of file is, as the program names the kinds.
 WORD_OF_KIND = {"topology": "TOPO", "config": "CONFIG", "old": "OLD", "new": "NEW", "policy": "POLICY", "plan": "PLAN", "schedule": "SCHEDULE",
@@ -27,12 +39,12 @@ CLASS = re.compile(r"(\S+) (\S+) ([\d.]+)")
 class Explainer:
     """Explains one run of the program: its command, its files by their words, its status and the beginning of its text."""
 
-    def __init__(self, run):
+    def __init__(self, run: Run | Asking) -> None:
         self.run = run
-        self.voice = run.voice
-        self.first = run.text.split("\n", 1)[0]
+        self.voice: Voice = run.voice
+        self.first: str = run.text.split("\n", 1)[0]
 
-    def explain(self):
+    def explain(self) -> None:
         """Says what there is to say."""
         status = self.run.status
         if status == 0:
@@ -44,10 +56,10 @@ class Explainer:
         elif status < 0 or status > 128:
             self.voice.refuse(f"the program was ended by signal {status - 128 if status > 0 else -status}; its answer isn't whole")
 
-    def shown(self, word):
+    def shown(self, word: str) -> str:
         return self.run.files[word].shown if word in self.run.files else word
 
-    def json(self, word):
+    def json(self, word: str) -> Json | None:
         """A file of the run as JSON, or None where it isn't read."""
         found = self.run.files.get(word)
         try:
@@ -55,11 +67,11 @@ class Explainer:
         except (OSError, NotJson, ValueError):
             return None
 
-    def network(self):
+    def network(self) -> Network:
         topology = self.json("TOPO")
         return nets.Network(topology) if topology is not None else None
 
-    def command(self, name, *words):
+    def command(self, name: str, *words: str) -> str:
         """A command line for files of this run, as it can be typed: with the folder where they were taken from one."""
         found = [self.run.files[word] for word in words if word in self.run.files]
         folder = [one.folder for one in found if one.folder][:1]
@@ -67,7 +79,7 @@ class Explainer:
 
     # ---- yes
 
-    def explain_done(self):
+    def explain_done(self) -> None:
         if self.run.command.name == "explain" and not self.voice.is_quiet:
             from planner_tools.story import tell
             if self.first.startswith("no run"):
@@ -78,7 +90,7 @@ class Explainer:
 
     # ---- no
 
-    def explain_refused(self):
+    def explain_refused(self) -> None:
         name, line = self.run.command.name, self.first
         if line.startswith("breaks: "):
             self.explain_end("CONFIG", line.split(" at ", 1)[1])
@@ -99,7 +111,7 @@ class Explainer:
         elif name == "paths":
             self.explain_paths()
 
-    def explain_end(self, word, rest):
+    def explain_end(self, word: str, rest: str) -> None:
         """A configuration has no good path for a class."""
         from planner_tools.reasons import ENDS
 
@@ -115,14 +127,14 @@ class Explainer:
                   "Missed": f"Next: lead it by {switch} in {self.shown(word)}, or take {switch} out of `through` of that demand"}[how]]
         self.voice.refuse(f"{self.shown(word)}: {sentence}", more)
 
-    def path_lines(self, word, host, vlan, address):
+    def path_lines(self, word: str, host: str, vlan: str, address: str) -> list[str]:
         """The path of a packet in a configuration, with the rule that it meets at each switch, as `trace` of the program has it."""
         status, text = self.run.ask("trace", self.run.files["TOPO"].real, self.run.files[word].real, host, vlan, address)
         if status != 0:
             return []
         return [f"its path in {self.shown(word)}:"] + ["  " + line for line in trace_words(text, self.network())]
 
-    def wanted_lines(self, host, vlan, address):
+    def wanted_lines(self, host: str, vlan: str, address: str) -> list[str]:
         """What the demands say that cover a class."""
         policy = self.json("POLICY")
         if policy is None:
@@ -134,7 +146,7 @@ class Explainer:
                 lines.append(f"{policy.where(demand.start)}, demands[{number}] wants of it: {demand_words(values)}")
         return lines or [f"no demand of {self.shown('POLICY')} covers it: wanted is only that it comes to no switch twice"]
 
-    def explain_no_evidence(self):
+    def explain_no_evidence(self) -> None:
         """No evidence certifies the rounds of a plan."""
         if self.first == "no evidence: two-phase plan":
             self.voice.refuse("a two-phase plan has labels as its evidence, and no other can be made: `certify` is for ordered plans",
@@ -147,14 +159,14 @@ class Explainer:
                           more + [f"Next: `{self.command('explain', 'TOPO', 'OLD', 'NEW', 'POLICY', 'PLAN')}` looks for a run in which a packet breaks the policy",
                                   "Next: make some of the changes of that round in a later one"])
 
-    def explain_no_ordered(self):
+    def explain_no_ordered(self) -> None:
         """There is no ordered plan, and only such a one is asked for. Which packets stand in the way is looked for only where a person reads."""
         more = self.run.costs().needed_words(self.run.text)[1:] if self.voice.is_read() else []
         self.voice.refuse(f"{self.stuck_words()}, and only an ordered plan is asked for",
                           [*more, f"Next: `{self.command('pack', 'TOPO', 'OLD', 'NEW', 'POLICY')} two-phase` makes a two-phase plan, where there are tags and room for it",
                            "Next: an update in two steps with a configuration in between, or a policy that asks for less"])
 
-    def explain_no_entry(self):
+    def explain_no_entry(self) -> None:
         _, _, entry, vlan = self.first.split(" ", 3)
         net = self.network()
         if net is None:
@@ -166,13 +178,13 @@ class Explainer:
         else:
             self.voice.refuse(f"the VLAN {vlan} isn't declared in `vlans` of {self.shown('TOPO')}", [f"the VLANs are {', '.join(map(str, net.vlans))}"])
 
-    def explain_paths(self):
+    def explain_paths(self) -> None:
         bad = [line for line in self.run.text.splitlines() if re.search(r" (Loop|Missed|Dropped) \S+$", line)]
         if bad:
             what, _, how = bad[0].partition(": ")
             self.explain_end("CONFIG", f"{what} {' '.join(how.split(' ')[-2:])}")
 
-    def explain_reason(self):
+    def explain_reason(self) -> None:
         """A reason of the checker other than that an end breaks."""
         from planner_tools.reasons import sentence_of
 
@@ -194,12 +206,12 @@ class Explainer:
             more.append(f"Next: `{self.command('plan', *update[:4])}` makes a plan of its own")
         self.voice.refuse(sentence, more)
 
-    def has_no_evidence(self):
+    def has_no_evidence(self) -> bool:
         """Whether the plan of a run has rounds, and no numbers or no picks of them."""
         plan = self.json("PLAN")
         return plan is not None and any(value is not None and not value.items() for value in (plan.root.member("numberings"), plan.root.member("picks")))
 
-    def swapped_lines(self):
+    def swapped_lines(self) -> list[str]:
         """What is said where the plan is one for the other way round."""
         words = ("TOPO", "NEW", "OLD", "POLICY", "PLAN")
         if any(word not in self.run.files or os.path.getsize(self.run.files[word].real) > LONGEST_TWICE for word in words):
@@ -207,7 +219,7 @@ class Explainer:
         status, _ = self.run.ask("check", *(self.run.files[word].real for word in words))
         return [f"with {self.shown('NEW')} as the old configuration and {self.shown('OLD')} as the new one the plan is accepted: are they swapped?"] if status == 0 else []
 
-    def round_lines(self, number, parts):
+    def round_lines(self, number: int, parts: dict[str, Any]) -> list[str]:
         """What there is to say of a reason that names no packet."""
         from planner_tools.story import Story
 
@@ -224,7 +236,7 @@ class Explainer:
             return self.change_lines(parts["round"], at)
         return story.differences(switch)[:8]
 
-    def change_lines(self, round_, change):
+    def change_lines(self, round_: int, change: int) -> list[str]:
         """A change of a plan in words."""
         plan, net = self.json("PLAN"), self.network()
         if plan is None or net is None:
@@ -236,7 +248,7 @@ class Explainer:
             what, rule = item.held[0].held, nets.plain(plan.at(("rules", item.held[1].whole())))
         return [f"the change, {plan.where(item.start)}: {what} at {rule['switch']}: {nets.match_words(rule)}, priority {rule['priority']}, {nets.action_words(rule, net)}"]
 
-    def capacity_lines(self, switch):
+    def capacity_lines(self, switch: str) -> list[str]:
         net = self.network()
         if net is None or switch not in net.numbers:
             return []
@@ -245,7 +257,7 @@ class Explainer:
 
     # ---- wrong words
 
-    def explain_words(self):
+    def explain_words(self) -> None:
         """The words are wrong: which, and what would be right."""
         from planner_tools import words as all_words
 
@@ -280,7 +292,7 @@ class Explainer:
 
     # ---- a bad file
 
-    def explain_bad(self):
+    def explain_bad(self) -> None:
         found = BAD.fullmatch(self.first)
         if self.first.startswith("too many classes: "):
             self.voice.refuse(f"the files make {self.first.split(': ')[1]} classes of packets, and the planner takes 8192",
@@ -290,7 +302,7 @@ class Explainer:
             kind, _, name, field, place = found.groups()
             self.explain_bad_file(kind, name, field or "", int(place))
 
-    def explain_bad_file(self, kind, name, field, place):
+    def explain_bad_file(self, kind: str, name: str, field: str, place: int) -> None:
         from planner_tools import lines as of_lines
 
         word = WORD_OF_KIND[kind]
@@ -306,7 +318,7 @@ class Explainer:
         else:
             self.explain_member(word, kind, name, field, place)
 
-    def explain_not_json(self, word):
+    def explain_not_json(self, word: str) -> None:
         from planner_tools.files import Text, read_bytes
 
         path = self.shown(word)
@@ -319,7 +331,7 @@ class Explainer:
             return
         self.voice.refuse(f"{path} is no JSON that the program reads")
 
-    def explain_member(self, word, kind, name, field, place):
+    def explain_member(self, word: str, kind: str, name: str, field: str, place: int) -> None:
         from planner_tools.faults import faults_of
 
         file = self.json(word)
@@ -344,7 +356,7 @@ class Explainer:
 
     # ---- two phases, files that can't be read, no run, memory
 
-    def explain_tags(self):
+    def explain_tags(self) -> None:
         need, has = map(int, re.findall(r"\d+", self.first)[:2])
         net = self.network()
         more = []
@@ -355,7 +367,7 @@ class Explainer:
         self.voice.refuse(f"{self.stuck_words()}, and a two-phase plan needs {counted(need, 'tag')}, one for each declared VLAN; there {'is' if has == 1 else 'are'} {has}",
                           [*more, f"Next: widen `tags` of {self.shown('TOPO')} to at least {counted(need, 'id')} from 1 to 4094 that the network uses for nothing else, or declare fewer `vlans`"])
 
-    def stuck_words(self):
+    def stuck_words(self) -> str:
         """How far the search for an ordered plan came, where one may be written."""
         if self.run.passed[5:] == ["two-phase"]:
             return "only two phases are asked for"
@@ -366,14 +378,14 @@ class Explainer:
             return "no order of single changes was found"
         return "no order of single changes was found: " + (f"behind {counted(rounds, 'round')} none is left that is safe" if rounds else "none of them is safe as the first one")
 
-    def explain_small(self):
+    def explain_small(self) -> None:
         found = re.match(r"too small: switch (\S+) need (\d+) capacity (\d+)", self.first)
         switch, need, capacity = found.groups()
         self.voice.refuse(f"{self.stuck_words()}, and a two-phase plan needs room for {need} entries at {switch}, which has {capacity}",
                           [*self.capacity_lines(switch), f"Next: where the table of {switch} has that room, say so by `capacity` {need}; otherwise fewer rules there, "
                            "fewer VLANs or fewer host ports, or an update in two steps with a configuration in between"])
 
-    def explain_unread(self):
+    def explain_unread(self) -> None:
         for found in self.run.files.values():
             try:
                 with open(found.real, "rb") as file:
@@ -384,22 +396,22 @@ class Explainer:
                 return
         self.voice.refuse("a file couldn't be read to its end: " + ", ".join(one.shown for one in self.run.files.values()))
 
-    def explain_unwritten(self):
+    def explain_unwritten(self) -> None:
         reason = self.run.fault.strerror if self.run.fault else "the program says no more"
         self.voice.refuse(f"{self.run.target}: the output couldn't all be written: {reason}; what is there isn't whole")
 
-    def explain_no_run(self):
+    def explain_no_run(self) -> None:
         from planner_tools.story import why_no_run
         why_no_run(self)
 
-    def explain_memory(self):
+    def explain_memory(self) -> None:
         self.voice.refuse("memory ran out, and nothing was written", ["Next: `ulimit -v` shows the limit of this shell; docs/RELIABILITY.md says how much a run takes"])
 
     BY_STATUS = {1: explain_refused, 2: explain_words, 3: explain_bad, 4: explain_tags, 5: explain_small, 6: explain_unread, 7: explain_unwritten,
                  8: explain_no_run, 9: explain_memory}
 
 
-def demand_words(demand):
+def demand_words(demand: dict[str, Any]) -> str:
     """What a demand wants, in words."""
     through, wants = list(dict.fromkeys(demand.get("through", []))), []
     if through:
@@ -409,7 +421,7 @@ def demand_words(demand):
     return " and ".join(wants) or "to come to no switch twice"
 
 
-def trace_words(text, net):
+def trace_words(text: str, net: Network) -> list[str]:
     """The lines of `trace` in words."""
     lines, is_back = [], False
     for line in text.splitlines():
@@ -429,7 +441,7 @@ def trace_words(text, net):
     return lines
 
 
-def source_lines(text, at):
+def source_lines(text: Text, at: int) -> list[str]:
     """The line of a text around a character, with a mark below it."""
     line, column = text.place(at)
     source = text.text.split("\n")[line - 1]
@@ -438,7 +450,7 @@ def source_lines(text, at):
     return [piece, "~" * (column - 1 - start) + "^"] if piece.strip() else []
 
 
-def spelling(word, text):
+def spelling(word: str, text: str) -> list[str]:
     """What is wrong with the spelling of a word that is no name of a file."""
     number = r"0|[1-9][0-9]*"
     if word == "N" and not (re.fullmatch(number, text) and 4 <= int(text) <= 128):
@@ -460,11 +472,11 @@ def spelling(word, text):
     return []
 
 
-def option_lines(given):
+def option_lines(given: Sequence[str]) -> list[str]:
     """Words about options that the planner doesn't have."""
     return [f"there is no option {one}{did_you_mean(one, ['--help', '--version', '--quiet', '--strict'])}" for one in given if is_option(one)]
 
 
-def is_option(word):
+def is_option(word: str) -> bool:
     """Whether a word is written like an option, and not like a number or a name."""
     return re.match("--?[A-Za-z]", word) is not None

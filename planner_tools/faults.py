@@ -1,9 +1,18 @@
 """Where a refused file goes wrong. The program says which check fails first: `bad FILE: NUMBER NAME FIELD at PLACE`. Here the checks of docs/FORMATS.md
 are gone through in their order, and the first that bears that name, field and place tells the member, and what would be right. Nothing is refused here.
 """
+from __future__ import annotations
+
 from planner_tools.files import did_you_mean, member_path, nearest
 from planner_tools.members import MEMBERS, OF_OTHERS
 from planner_tools.network import LAST_PORT, LAST_VLAN, NAME, port_reference, prefix
+
+TYPE_CHECKING = False
+if TYPE_CHECKING:
+    from typing import Any, Callable, Generator, Iterator, Sequence
+
+    from planner_tools.files import Json, Value
+    from planner_tools.network import Network
 
 PORT_WORDS = "a port is written SWITCH:PORT, as \"s1:2\""
 PREFIX_WORDS = "a prefix is four numbers from 0 to 255 joined by dots, a slash, and a length from 0 to 32, as \"10.0.0.0/24\""
@@ -17,11 +26,11 @@ class Fault:
     """A failed check: its name, field and place as the program prints them, the way to the value at fault, what is wrong with it, what would be right,
     further values that have a part in it, each with words for it, and more lines on it."""
 
-    def __init__(self, name, field, place, way, what, right="", others=(), more=()):
+    def __init__(self, name: str, field: str, place: int, way: Sequence[int | str], what: str, right: str = "", others: Sequence[tuple[tuple[int | str, ...], str]] = (), more: Sequence[str] = ()) -> None:
         self.name, self.field, self.place, self.way, self.what, self.right, self.others, self.more = name, field, place, way, what, right, others, list(more)
 
 
-def faults_of(kind, json, network):
+def faults_of(kind: str, json: Json, network: Network | None) -> Iterator[Fault]:
     """All faults of a file, in the order of the checks, for a kind of file as the program names it."""
     if json.root.kind != "object":
         yield Fault("Shape", "top", 0, (), f"the file holds {KIND_WORDS[json.root.kind]}, and it has to be an object", "{ .. }")
@@ -38,10 +47,10 @@ def faults_of(kind, json, network):
 class Checks:
     """What the checks of all formats share."""
 
-    def __init__(self, json, network):
+    def __init__(self, json: Json, network: Network | None) -> None:
         self.json, self.network = json, network
 
-    def list_at(self, name, known):
+    def list_at(self, name: str, known: Sequence[str]) -> tuple[list[Value] | None, Fault | None]:
         """The items of a list of the top value, and the fault where there is none."""
         value = self.json.root.member(name)
         if value is None:
@@ -50,7 +59,7 @@ class Checks:
             return None, Fault("Shape", name, 0, (name,), "it has to be a list", "[ .. ]")
         return value.held, None
 
-    def missing(self, way, name, field, place, known):
+    def missing(self, way: Sequence[int | str], name: str, field: str, place: int, known: Sequence[str]) -> Fault:
         """The fault that a member isn't there."""
         held = self.json.at(way)
         here = [one for one, _, _ in held.held] if held.kind == "object" else []
@@ -62,7 +71,7 @@ class Checks:
             what += f": the file looks like a {other}; are the words in the right order?"
         return Fault("Shape", field, place, way, what, known_words(name, known))
 
-    def of_kind(self, item, way, place, name, kinds, right, known, default=False):
+    def of_kind(self, item: Value, way: Sequence[int | str], place: int, name: str, kinds: Sequence[str], right: str, known: Sequence[str], default: bool = False) -> Fault | None:
         """The fault of a member that has to be of one of some kinds, or None."""
         value = item.member(name)
         if value is None:
@@ -71,31 +80,31 @@ class Checks:
             return None
         return Fault("Shape", name, place, (*way, name), kind_fault(value, kinds), right)
 
-    def switch_fault(self, name, place, way):
+    def switch_fault(self, name: str, place: int, way: Sequence[int | str]) -> Fault:
         before = name.rpartition(":")[0]
         guess = f"; did you mean `{before}`?" if before in self.switch_names() else did_you_mean(name, self.switch_names())
         return Fault("UnknownSwitch", "", place, way, f"no switch is named `{name}`{guess}", self.names_words())
 
-    def switch_names(self):
+    def switch_names(self) -> list[str]:
         return [one for one in self.network.names if one is not None]
 
-    def names_words(self):
+    def names_words(self) -> str:
         names = self.switch_names()
         return "the switches are " + ", ".join(names[:8]) + (f" and {len(names) - 8} more" if len(names) > 8 else "") if names else "the topology has no switch"
 
 
-def known_words(name, known):
+def known_words(name: str, known: Sequence[str]) -> str:
     return "the members are " + ", ".join(f"`{one}`" for one in known) if len(known) > 1 else f"`{name}` is the one member"
 
 
-def fits(value, kind):
+def fits(value: Value, kind: str) -> bool:
     """Whether a value is of a kind: a text, a list, a truth value, a whole number, or just this word."""
     if kind == "whole":
         return value.whole() is not None
     return value.kind == kind if kind in KIND_WORDS else value.kind == "text" and value.held == kind
 
 
-def kind_fault(value, kinds):
+def kind_fault(value: Value, kinds: Sequence[str]) -> str:
     """What is wrong with a value that is of none of some kinds."""
     words = [kind for kind in kinds if kind not in KIND_WORDS and kind != "whole"]
     if value.kind == "number":
@@ -109,30 +118,31 @@ def kind_fault(value, kinds):
     return f"it is {KIND_WORDS[value.kind]}"
 
 
-def vlan_fault(value, place, way, right):
+def vlan_fault(value: Value, place: int, way: Sequence[int | str], right: str) -> Fault | None:
     """The fault of a VLAN whose kind is right, or None."""
     number = value.whole()
     return Fault("BadVlan", "", place, way, f"a VLAN id is 1 to {LAST_VLAN}", right) if number is not None and not 1 <= number <= LAST_VLAN else None
 
 
 class Topology(Checks):
-    def __init__(self, json):
+    def __init__(self, json: Json) -> None:
         super().__init__(json, None)
-        self.names, self.used = {}, {}
-        self.count = {}
+        self.names: dict[str, int] = {}
+        self.used: dict[tuple[str, int], Any] = {}
+        self.count: dict[str, int] = {}
 
-    def switch_names(self):
+    def switch_names(self) -> list[str]:
         return list(self.names)
 
-    def names_words(self):
+    def names_words(self) -> str:
         names = self.switch_names()
         return "the switches are " + ", ".join(names[:8]) + (f" and {len(names) - 8} more" if len(names) > 8 else "") if names else "the topology has no switch"
 
-    def faults(self):
+    def faults(self) -> Iterator[Fault]:
         for part in (self.switches, self.links, self.hosts, self.vlans, self.tags):
             yield from part()
 
-    def switches(self):
+    def switches(self) -> Iterator[Fault]:
         items, fault = self.list_at("switches", MEMBERS["topology"])
         if fault:
             yield fault
@@ -161,7 +171,7 @@ class Topology(Checks):
             elif not 1 <= item.member("capacity").whole() <= 8192:
                 yield Fault("BadCapacity", "", number, (*way, "capacity"), "a switch holds from 1 to 8192 rules", "a whole number from 1 to 8192")
 
-    def links(self):
+    def links(self) -> Iterator[Fault]:
         items, fault = self.list_at("links", MEMBERS["topology"])
         if fault:
             yield fault
@@ -174,7 +184,7 @@ class Topology(Checks):
             for end, value in enumerate(item.held):
                 yield from self.port(value.held, "links", number, (*way, end))
 
-    def hosts(self):
+    def hosts(self) -> Iterator[Fault]:
         items, fault = self.list_at("hosts", MEMBERS["topology"])
         if fault:
             yield fault
@@ -186,7 +196,7 @@ class Topology(Checks):
                 continue
             yield from self.port(item.held, "hosts", number, way)
 
-    def port(self, text, field, place, way):
+    def port(self, text: str, field: str, place: int, way: Sequence[int | str]) -> Iterator[Fault]:
         """The faults of a port reference, which is used from here on."""
         found = port_reference(text)
         if found is None:
@@ -206,12 +216,12 @@ class Topology(Checks):
             if self.count[name] == 65:
                 yield Fault("TooMany", field, place, way, f"it is the 65th used port of {name}", "at most 64 used ports a switch")
 
-    def vlans(self):
+    def vlans(self) -> Iterator[Fault]:
         items, fault = self.list_at("vlans", MEMBERS["topology"])
         if fault:
             yield fault
             return
-        seen = {}
+        seen: dict[Any, Any] = {}
         for number, item in enumerate(items):
             way = ("vlans", number)
             if number == 64:
@@ -227,7 +237,7 @@ class Topology(Checks):
                 yield Fault("VlanTwice", "", number, way, "the VLAN was declared before", "each VLAN once", [(("vlans", seen[item.held]), "the first time")])
             seen.setdefault(item.held, number)
 
-    def tags(self):
+    def tags(self) -> Iterator[Fault]:
         items, fault = self.list_at("tags", MEMBERS["topology"])
         right = "[], or the first and the last id of a range, as [3000, 3009]"
         if fault:
@@ -246,7 +256,7 @@ class Topology(Checks):
 class Rules(Checks):
     """The checks of a rule, of a configuration or of a plan."""
 
-    def rule(self, item, way, place, known):
+    def rule(self, item: Value, way: Sequence[int | str], place: int, known: Sequence[str]) -> Iterator[Fault]:
         bad = self.of_kind(item, way, place, "switch", ["text"], 'the name of a switch, as "s1"', known)
         if bad:
             yield bad
@@ -255,13 +265,13 @@ class Rules(Checks):
 
 
 class Configuration(Rules):
-    def faults(self):
+    def faults(self) -> Iterator[Fault]:
         known = MEMBERS["rule"]
         items, fault = self.list_at("rules", MEMBERS["configuration"])
         if fault:
             yield fault
             return
-        seen = {}
+        seen: dict[Any, Any] = {}
         for number, item in enumerate(items):
             way = ("rules", number)
             if number == 2048:
@@ -276,11 +286,11 @@ class Configuration(Rules):
             mine = sorted(rule for (switch, _), rules in seen.items() if switch == name for rule, _ in rules)
             capacity = self.network.capacities[number]
             if capacity is not None and len(mine) > capacity:
-                net, way = self.network.json, ("switches", number, "capacity")
+                net, place = self.network.json, ("switches", number, "capacity")
                 yield Fault("OverCapacity", "", number, ("rules", mine[capacity]), f"it is one too many: there are {len(mine)} rules for {name}, which can hold {capacity}",
-                            f"fewer rules for {name}, or its true capacity", more=[f"{net.where(net.at(way).start)}: {member_path(way)} is {net.shown(net.at(way))}"])
+                            f"fewer rules for {name}, or its true capacity", more=[f"{net.where(net.at(place).start)}: {member_path(place)} is {net.shown(net.at(place))}"])
 
-    def parts(self, item, way, number, known):
+    def parts(self, item: Value, way: Sequence[int | str], number: int, known: Sequence[str]) -> Iterator[Fault]:
         bad = self.of_kind(item, way, number, "priority", ["whole"], "a whole number from 1 to 16383", known)
         if bad:
             yield bad
@@ -295,7 +305,7 @@ class Configuration(Rules):
         bad = self.of_kind(item, way, number, "out", ["whole", "drop"], "the number of a port, or `drop`", known)
         yield from [bad] if bad else self.port(item, way, number, "out")
 
-    def port(self, item, way, number, name):
+    def port(self, item: Value, way: Sequence[int | str], number: int, name: str) -> Iterator[Fault]:
         value, switch = item.member(name), item.member("switch")
         port = value.whole() if value is not None else None
         if port is not None and switch is not None and switch.kind == "text":
@@ -304,7 +314,7 @@ class Configuration(Rules):
                 have = ", ".join(map(str, sorted(ports))) or "none"
                 yield Fault("BadPort", "", number, (*way, name), f"no link and no host is at port {port} of {switch.held}", f"the ports of {switch.held} are {have}")
 
-    def vlan(self, item, way, number):
+    def vlan(self, item: Value, way: Sequence[int | str], number: int) -> Iterator[Fault]:
         value = item.member("vlan")
         if value is None:
             return
@@ -316,14 +326,14 @@ class Configuration(Rules):
             yield Fault("ReservedVlan", "", number, (*way, "vlan"), f"the id is one of the tags {tags[0]} to {tags[-1]} that the planner may use",
                         "an id outside of `tags` of the topology, or declared in its `vlans`")
 
-    def prefix(self, item, way, number, known):
+    def prefix(self, item: Value, way: Sequence[int | str], number: int, known: Sequence[str]) -> Iterator[Fault]:
         bad = self.of_kind(item, way, number, "dst", ["text"], PREFIX_WORDS, known)
         if bad:
             yield bad
         elif prefix(item.member("dst").held) is None:
             yield Fault("BadPrefix", "", number, (*way, "dst"), *prefix_words(item.member("dst").held))
 
-    def compared(self, item, way, number, seen):
+    def compared(self, item: Value, way: Sequence[int | str], number: int, seen: dict[tuple[str, int], Any]) -> Iterator[Fault]:
         """The faults of a rule beside the earlier ones of its switch."""
         parts = rule_parts(item)
         if parts is None:
@@ -344,7 +354,7 @@ class Configuration(Rules):
         earlier.append((number, match))
 
 
-def rule_parts(item):
+def rule_parts(item: Value) -> Any:
     """The switch, the priority and the match of a rule of a configuration, or None where they can't be told."""
     switch, priority, dst = item.member("switch"), item.member("priority"), item.member("dst")
     in_port, vlan = item.member("in_port"), item.member("vlan")
@@ -354,7 +364,7 @@ def rule_parts(item):
     return switch.held, priority.held, ("any" if in_port is None else in_port.held, "any" if vlan is None else vlan.held, prefix(dst.held))
 
 
-def overlap(one, other):
+def overlap(one: tuple[int | str, int | str, tuple[int, int]], other: tuple[int | str, int | str, tuple[int, int]]) -> bool:
     """Whether some packet matches both."""
     same = all("any" in (a, b) or a == b for a, b in zip(one[:2], other[:2]))
     (first, length), (first_2, length_2) = one[2], other[2]
@@ -362,7 +372,7 @@ def overlap(one, other):
     return same and (not short or first >> 32 - short == first_2 >> 32 - short)
 
 
-def prefix_words(text):
+def prefix_words(text: str) -> tuple[str, str]:
     """What is wrong with a text that is no prefix, and what would be right."""
     from planner_tools.network import PREFIX, address
 
@@ -378,7 +388,7 @@ def prefix_words(text):
 
 
 class Policy(Checks):
-    def faults(self):
+    def faults(self) -> Iterator[Fault]:
         known = MEMBERS["demand"]
         items, fault = self.list_at("demands", MEMBERS["policy"])
         if fault:
@@ -404,7 +414,7 @@ class Policy(Checks):
             bad = self.of_kind(item, way, number, "deliver", ["truth"], "true or false, without quotes", known, True)
             yield from [bad] if bad else []
 
-    def source(self, item, way, number, known):
+    def source(self, item: Value, way: Sequence[int | str], number: int, known: Sequence[str]) -> Iterator[Fault]:
         bad = self.of_kind(item, way, number, "from", ["text"], f"a host port, or `any`: {PORT_WORDS}", known, True)
         value = item.member("from")
         if bad or value is None or value.held == "any":
@@ -422,7 +432,7 @@ class Policy(Checks):
             yield Fault("NotHost", "", number, way, f"it is no host port{f': a link to {self.network.peers[value.held]} is there' if value.held in self.network.peers else ''}",
                         f"the host ports of {name} are {', '.join(here)}" if here else f"{name} has no host port; the host ports are {', '.join(self.network.hosts[:8])}")
 
-    def through(self, item, way, number, known):
+    def through(self, item: Value, way: Sequence[int | str], number: int, known: Sequence[str]) -> Iterator[Fault]:
         bad = self.of_kind(item, way, number, "through", ["list"], 'a list of names of switches, as ["s2", "s3"]', known, True)
         value = item.member("through")
         if bad or value is None:
@@ -440,7 +450,7 @@ class Policy(Checks):
 
 
 class Plan(Rules):
-    def faults(self):
+    def faults(self) -> Iterator[Fault]:
         root = self.json.root
         known = MEMBERS["plan"]
         bad = self.of_kind(root, (), 0, "format", ["whole"], "1 or 2", known)
@@ -461,7 +471,7 @@ class Plan(Rules):
         yield from self.rounds("rounds", known)
         yield from self.ordered(known) if self.kind == "ordered" else self.two_phase(known)
 
-    def plan_rules(self, known):
+    def plan_rules(self, known: Sequence[str]) -> Iterator[Fault]:
         items, fault = self.list_at("rules", known)
         if fault:
             yield fault
@@ -473,7 +483,7 @@ class Plan(Rules):
                 continue
             yield from self.plan_rule(item, way, number, MEMBERS["plan rule"])
 
-    def plan_rule(self, item, way, place, known):
+    def plan_rule(self, item: Value, way: Sequence[int | str], place: int, known: Sequence[str]) -> Iterator[Fault]:
         place = min(place, PLACES_END)
         yield from self.rule(item, way, place, known)
         for name, kinds, right, default in (
@@ -488,7 +498,7 @@ class Plan(Rules):
             yield Fault("Shape", "strip", place, (*way, "strip"), "it isn't true", "true, or no member `strip`")
         yield from self.ranges(item, way, place)
 
-    def ranges(self, item, way, place):
+    def ranges(self, item: Value, way: Sequence[int | str], place: int) -> Iterator[Fault]:
         """Where a part of a rule is out of its range."""
         for name, last, what in (("priority", 65535, "a priority"), ("in_port", LAST_PORT, "a port number"), ("vlan", LAST_VLAN, "a VLAN id"),
                                  ("out", LAST_PORT, "a port number"), ("set", LAST_VLAN, "a VLAN id")):
@@ -505,7 +515,7 @@ class Plan(Rules):
         elif rewrites and out is not None and out.held == "drop":
             yield Fault("BadRule", "", place, (*way, rewrites[0]), f"`{rewrites[0]}` stands beside `drop`", "a rule that drops rewrites nothing")
 
-    def rounds(self, name, known):
+    def rounds(self, name: str, known: Sequence[str]) -> Iterator[Fault]:
         items, fault = self.list_at(name, known)
         most = 4200 if name == "rounds" else 4096
         if fault:
@@ -523,7 +533,7 @@ class Plan(Rules):
                 yield from self.one_change(change, (name, number, at), name, count)
                 self.change += 1
 
-    def one_change(self, change, way, name, count):
+    def one_change(self, change: Value, way: tuple[str, int, int], name: str, count: int) -> Iterator[Fault]:
         place = min(self.change, PLACES_END)
         if self.format == 1:
             if change.kind != "object":
@@ -541,7 +551,7 @@ class Plan(Rules):
         elif parts[1].whole() >= count:
             yield Fault("BadIndex", "", place, (*way, 1), f"no rule has the number {parts[1].whole()}", f"`rules` has {count} rules, numbered from 0")
 
-    def ordered(self, known):
+    def ordered(self, known: Sequence[str]) -> Iterator[Fault]:
         switches = len(self.network.names)
         numberings = yield from self.table("numberings", known, lambda one: one.kind == "list" and len(one.held) == switches
                                            and all((it.whole() or 0) <= 65535 and it.whole() is not None for it in one.held),
@@ -561,14 +571,14 @@ class Plan(Rules):
             sizes["uses"] = len(uses)
         yield from self.picks(known, sizes)
 
-    def picks(self, known, sizes):
+    def picks(self, known: Sequence[str], sizes: dict[str, int]) -> Iterator[Fault]:
         length = {"ordered": 4 if self.format == 1 else 3, "two-phase": 2}[self.kind]
         right = {4: "a round, a class, the number of a numbering, and a list of numbers of before sets", 3: "a round, a class, and the number of a use",
                  2: "a round, and the number of a label table"}[length]
         picks = yield from self.table("picks", known, lambda one: one.kind == "list" and len(one.held) == length and all(it.whole() is not None for it in one.held[:3])
                                       and (length < 4 or one.held[3].kind == "list" and all(it.whole() is not None for it in one.held[3].held)), right)
-        rounds = self.json.root.member("rounds")
-        rounds = len(rounds.items()) if rounds is not None else 0
+        listed = self.json.root.member("rounds")
+        rounds = len(listed.items()) if listed is not None else 0
         last = None
         for number, one in enumerate(picks):
             numbers = [it.whole() for it in one.items()]
@@ -582,7 +592,7 @@ class Plan(Rules):
                 yield Fault("BadIndex", "", number, ("picks", number), what, right)
             last = key
 
-    def table(self, name, known, is_good, right):
+    def table(self, name: str, known: Sequence[str], is_good: Callable[..., Any], right: str) -> Generator[Fault, None, list[Value]]:
         """The items of a list of evidence; the faults of those that aren't of the right form come first."""
         items, fault = self.list_at(name, known)
         if fault:
@@ -593,7 +603,7 @@ class Plan(Rules):
                 yield Fault("Shape", name, number, (name, number), "it isn't of the right form", right)
         return items
 
-    def two_phase(self, known):
+    def two_phase(self, known: Sequence[str]) -> Iterator[Any]:
         right = "lists of [VLAN, `old` or `new`, the user's VLAN], the VLANs ascending, untagged first"
         labels = yield from self.table("labels", known, lambda one: one.kind == "list" and all(is_label(it) for it in one.held), right)
         for number, one in enumerate(labels):
@@ -604,18 +614,18 @@ class Plan(Rules):
         yield from self.rounds("tried", known)
 
 
-def is_pair_with_list(one):
+def is_pair_with_list(one: Value) -> bool:
     return (one.kind == "list" and len(one.held) == 2 and one.held[0].whole() is not None and one.held[1].kind == "list"
             and all(it.whole() is not None for it in one.held[1].held))
 
 
-def is_label(one):
-    def is_vlan(it):
+def is_label(one: Value) -> bool:
+    def is_vlan(it: Any) -> bool:
         return it.whole() is not None or it.held == "untagged"
     return one.kind == "list" and len(one.held) == 3 and is_vlan(one.held[0]) and one.held[1].held in ("old", "new") and is_vlan(one.held[2])
 
 
-def index_fault(numbers, one, length, rounds, sizes):
+def index_fault(numbers: Sequence[int], one: Value, length: int, rounds: int, sizes: dict[str, int]) -> str | None:
     """What is wrong with the numbers of a pick, or None."""
     if not 1 <= numbers[0] <= rounds:
         return f"no round has the number {numbers[0]}: they are 1 to {rounds}"

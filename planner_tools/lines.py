@@ -1,8 +1,18 @@
 """Where a refused text of lines goes wrong: a schedule, the inputs of a driver, or flow statistics."""
+from __future__ import annotations
+
 import re
 
 from planner_tools import network as nets
 from planner_tools.files import Text, did_you_mean, read_bytes, short
+
+TYPE_CHECKING = False
+if TYPE_CHECKING:
+    from typing import Any, Sequence
+
+    from planner_tools.explanations import Explainer
+    from planner_tools.network import Network
+    from planner_tools.switches.entries import Entry
 
 KINDS = ("schedule", "input", "replies")
 NUMBER = re.compile(r"0|[1-9][0-9]*")
@@ -21,7 +31,7 @@ PROFILE = {
 }
 
 
-def explain(explainer, kind, name, field, place):
+def explain(explainer: Explainer, kind: str, name: str, field: str, place: int) -> None:
     found = explainer.run.files[{"schedule": "SCHEDULE", "input": "INPUT", "replies": "REPLIES"}[kind]]
     text = Text(found.shown, read_bytes(found.real))
     net, voice = explainer.network(), explainer.voice
@@ -40,13 +50,13 @@ def explain(explainer, kind, name, field, place):
         explain_entry(explainer, found.shown, lines, net, name, field, place)
 
 
-def bad_number(text):
+def bad_number(text: str) -> str:
     if re.fullmatch(r"-?[0-9]+", text):
         return "a number is written in decimal without leading zeros, up to 4294967295"
     return f"{short(text)} is no number"
 
 
-def shape_fault(line):
+def shape_fault(line: str) -> str | None:
     """What is wrong with the white space of a line, or None."""
     if line.endswith("\r"):
         return "the line ends with a carriage return; lines end with a line feed alone"
@@ -57,7 +67,7 @@ def shape_fault(line):
     return None
 
 
-def bad_event(line, names):
+def bad_event(line: str, names: Sequence[str]) -> tuple[str, str]:
     """What is wrong with a line of a schedule, and what would be right."""
     words = line.split()
     known = EVENTS.get(words[0]) if words else None
@@ -75,7 +85,7 @@ def bad_event(line, names):
     return bad_number(words[1]) if len(words) > 1 else "it can't be read", f"`{known}`"
 
 
-def bad_place(text, names):
+def bad_place(text: str, names: Sequence[str]) -> str | None:
     found = nets.port_reference(text)
     if found is None:
         return f"{short(text)} is no port: it is written SWITCH:PORT"
@@ -84,23 +94,23 @@ def bad_place(text, names):
     return None if 1 <= found[1] <= nets.LAST_PORT else f"a port number is 1 to {nets.LAST_PORT}"
 
 
-def bad_vlan(text):
+def bad_vlan(text: str) -> Any:
     good = text == "untagged" or NUMBER.fullmatch(text) and len(text) < 5 and 1 <= int(text) <= nets.LAST_VLAN
     return None if good else f"{short(text)} is no VLAN: it is `untagged` or 1 to {nets.LAST_VLAN}"
 
 
-def bad_hex(text):
+def bad_hex(text: str) -> str:
     if re.search("[^0-9a-fA-F]", text):
         at = re.search("[^0-9a-fA-F]", text)
         return f"{short(at[0])} is no hexadecimal digit (character {at.start() + 1} of the bytes)"
     return "the bytes have an odd number of digits" if len(text) % 2 else "no bytes are given" if not text else "it can't be read"
 
 
-def bad_switch(name, names):
+def bad_switch(name: str, names: Sequence[str]) -> str | None:
     return None if name in names else f"no switch is named `{short(name)}`{did_you_mean(name, [one for one in names if one])}"
 
 
-def bad_input(line, names):
+def bad_input(line: str, names: Sequence[str]) -> tuple[str, str]:
     """What is wrong with a line of the inputs of a driver, and what would be right."""
     words = line.split()
     right = "`start`, or `feed SWITCH HEX`"
@@ -116,7 +126,7 @@ def bad_input(line, names):
     return bad_switch(words[1], names) or bad_hex(words[2]), right
 
 
-def bad_reply(line, names):
+def bad_reply(line: str, names: Sequence[str]) -> tuple[str, str]:
     """What is wrong with a line of flow statistics, and what would be right."""
     words, right = line.split(), "the name of a switch, a space, and the bytes of one message in hexadecimal digits"
     if re.search(r"(NXST|OFPST)_FLOW reply|(^|[ ,])actions=|^\s*cookie=0x", line):
@@ -126,7 +136,7 @@ def bad_reply(line, names):
     return bad_switch(words[0], names) or shape_fault(line) or ("two words have to stand in a line" if len(words) != 2 else bad_hex(words[1])), right
 
 
-def bad_message(line):
+def bad_message(line: str) -> str:
     """Why some bytes aren't one statistics reply."""
     data = bytes.fromhex(line.split(" ")[1])
     if len(data) < 12:
@@ -150,7 +160,7 @@ def bad_message(line):
     return "an earlier line of the switch was the last one of its answer: only a message that says that more follow may have another one behind it"
 
 
-def explain_entry(explainer, path, lines, net, name, field, place):
+def explain_entry(explainer: Explainer, path: str, lines: Sequence[str], net: Network, name: str, field: str, place: int) -> None:
     """A refusal of an entry, or of all entries of a switch."""
     voice = explainer.voice
     if name in ("Incomplete", "OverCapacity") and net is not None and place < len(net.names):
@@ -177,7 +187,7 @@ def explain_entry(explainer, path, lines, net, name, field, place):
     voice.refuse(f"{path}, line {line}: {switch}: {entry}: {what}", [*more, "docs/CONTROLLER.md says what to do about entries that can't be said"])
 
 
-def bad_port(entry, switch, net):
+def bad_port(entry: Entry, switch: str, net: Network) -> str:
     """Which port of an entry isn't there."""
     ports = net.ports.get(switch, set()) if net is not None else set()
     out = int.from_bytes(entry.actions[4:6], "big") if entry.actions else None
@@ -185,20 +195,21 @@ def bad_port(entry, switch, net):
     return f"no link and no host is at port {port} of {switch}"
 
 
-def alike(one, other, is_key):
-    _, *test = one.test()
-    _, *other_test = other.test()
+def alike(one: Entry, other: Entry, is_key: bool) -> bool:
+    _, in_port, vlan, base, length = one.test()
+    _, other_port, other_vlan, other_base, other_length = other.test()
+    test, other_test = (in_port, vlan, (base, length)), (other_port, other_vlan, (other_base, other_length))
     if is_key:
         return test == other_test
     from planner_tools.faults import overlap
-    return overlap((*test[:2], tuple(test[2:])), (*other_test[:2], tuple(other_test[2:])))
+    return overlap(test, other_test)
 
 
-def entry_at(lines, number):
+def entry_at(lines: Sequence[str], number: int) -> tuple[int, str, Entry, list[Any]] | None:
     """The line, the switch, and the entry with a number, counted over all lines; and the earlier ones. None where it isn't there."""
     from planner_tools.switches.entries import Entry, cut_entries
 
-    earlier = []
+    earlier: list[tuple[int, str, Entry]] = []
     for at, line in enumerate(lines, 1):
         if not line or line.startswith("#"):
             continue

@@ -1,5 +1,11 @@
 """The reasons of the checker, in sentences of the field."""
+from __future__ import annotations
+
 import re
+
+TYPE_CHECKING = False
+if TYPE_CHECKING:
+    from typing import Any
 
 ENTRY = r"(?P<host>\S+:\d+) (?P<vlan>\S+) (?P<address>[\d.]+)"
 # Of each reason of `check`: the rest of its line, and the sentence for it.
@@ -43,14 +49,16 @@ ACCEPTED = ("In whatever order the changes of a round and the hops of packets fa
 ORDERED, TWO_PHASE = ".", "; and each packet goes by the old rules or by the new ones all the way."
 
 
-def sentence_of(line):
+def sentence_of(line: str) -> tuple[str, dict[str, Any]]:
     """Returns the sentence for a line of `check`, and its parts."""
     words = line.split(" ", 3)
     if words[0] == "accepted:":
         return ACCEPTED + (TWO_PHASE if words[1].startswith("two-phase") else ORDERED), {}
     number, tail = int(words[1]), " ".join(words[3:])
     _, shape, sentence = REASONS[number]
-    parts = re.fullmatch(shape, tail).groupdict()
+    found = re.fullmatch(shape, tail)
+    assert found is not None
+    parts = found.groupdict()
     if "host" in parts:
         vlan = "untagged" if parts["vlan"] == "untagged" else f"with VLAN {parts['vlan']}"
         for one, verb in (("packet", "enters"), ("packets", "enter")):

@@ -3,6 +3,8 @@
 What a file holds is what the program reads of it: a plan is read through `upgrade`, a configuration is looked at by `config`, a schedule is carried out
 by `replay`. Where the program refuses one, that is said, and nothing is shown.
 """
+from __future__ import annotations
+
 import argparse
 import json
 import os
@@ -15,13 +17,19 @@ from planner_tools.intent import entries
 from planner_tools.proved import Names, Unable, beside, doubtful, joined, say_why
 from planner_tools.voice import Voice
 
+TYPE_CHECKING = False
+if TYPE_CHECKING:
+    from typing import Any, Sequence
+
+    from planner_tools.network import Network
+
 WAIT = 2.0
 BAD_FILE = 3
 # The kind of a configuration behind another one.
 OTHER = "other configuration"
 
 
-def kind_of(path, shown=None):
+def kind_of(path: str, shown: str | None = None) -> str:
     """What a file holds, as far as its form tells: a topology, a plan, a configuration, or a schedule. `shown` is its name as it is told."""
     shown = shown or path
     try:
@@ -38,7 +46,7 @@ def kind_of(path, shown=None):
     raise Unable(f"{shown}: it is neither a plan nor a configuration", BAD_FILE, ["a plan has `rounds`, a configuration `rules`"])
 
 
-def at_folder(folder, name):
+def at_folder(folder: str, name: str) -> str:
     """A name behind a folder: where it is no file, but one of the folder, it is that one."""
     path = joined(folder, name)
     return path if not os.path.exists(name) and os.path.isfile(path) else name
@@ -47,8 +55,9 @@ def at_folder(folder, name):
 class Shown:
     """The files that are to be shown, by their kinds, with the last one as what is shown."""
 
-    def __init__(self, names):
-        self.files, self.names = {}, Names()
+    def __init__(self, names: Sequence[str]) -> None:
+        self.names = Names()
+        self.files: dict[str, str] = {}
         names = self.unfolded([self.names.real(name) for name in ([".", "-"] if names == ["-"] else names)])
         for name in names:
             if not os.path.exists(name):
@@ -63,7 +72,7 @@ class Shown:
             self.files[kind] = name
         self.topology, self.last = names[0], OTHER if OTHER in self.files else kind_of(names[-1], self.names.shown(names[-1]))
 
-    def unfolded(self, names):
+    def unfolded(self, names: list[str]) -> list[str]:
         """The names, where a folder in place of the topology stands for the files of it that are left out."""
         folder = names[0]
         if not os.path.isdir(folder):
@@ -80,21 +89,21 @@ class Shown:
         have = {self.kind_of(name) for name in given}
         return [inside["topology"], *(inside[kind] for kind in before if kind not in have and os.path.isfile(inside[kind])), *given]
 
-    def kind_of(self, name):
+    def kind_of(self, name: str) -> str:
         """What a file holds, or nothing where it isn't there."""
         return kind_of(name, self.names.shown(name)) if os.path.exists(name) else ""
 
-    def ask(self, *given):
+    def ask(self, *given: str) -> str:
         """The text of a run of the program over files. Where it refuses them, it is said why, and it is Unable."""
         status, text = say_why(*map(self.names.given, given), good=(0, 1))
         if status not in (0, 1):
             raise Unable(None, status)
         return text
 
-    def network(self):
+    def network(self) -> Network:
         return nets.Network(read_json(self.topology, self.names.shown(self.topology)))
 
-    def rules(self, kind="configuration"):
+    def rules(self, kind: str = "configuration") -> list[dict[str, Any]] | None:
         """The rules of a configuration, or None where none is given."""
         name = self.files.get(kind)
         if name is None:
@@ -102,16 +111,18 @@ class Shown:
         self.ask("config", self.topology, name)
         return nets.plain(read_json(name).root)["rules"]
 
-    def plan(self):
+    def plan(self) -> dict[str, Any] | None:
         name = self.files.get("plan")
         return json.loads(self.ask("upgrade", self.topology, name)) if name is not None else None
 
 
 # ---- a plan
 
-def plan_values(plan, rules, network, wait):
+def plan_values(plan: dict[str, Any], rules: Sequence[dict[str, Any]], network: Network, wait: float) -> dict[str, Any]:
     """A plan as values: round by round the changes, each with what was there before."""
-    tables, rounds, counts, tags = story.Tables(rules or []), [], {"insert": 0, "delete": 0, "replace": 0}, set()
+    tables, counts = story.Tables(rules or []), {"insert": 0, "delete": 0, "replace": 0}
+    rounds: list[dict[str, Any]] = []
+    tags: set[int] = set()
     for number, changes in enumerate(plan["rounds"], 1):
         made = []
         for do, at in changes:
@@ -126,7 +137,7 @@ def plan_values(plan, rules, network, wait):
             "tags": sorted(tags), "labels": {str(vlan): user for table in plan.get("labels", []) for vlan, _, user in table if vlan in tags}, "wait": wait, "seconds": wait * len(rounds)}
 
 
-def next_of(rule, network):
+def next_of(rule: dict[str, Any], network: Network) -> str | None:
     """The switch or the host port to which a rule sends, or None where it drops."""
     if rule["out"] == "drop":
         return None
@@ -134,12 +145,12 @@ def next_of(rule, network):
     return network.peers[end].rpartition(":")[0] if end in network.peers else end
 
 
-def change_line(change, network, has_priority):
+def change_line(change: dict[str, Any], network: Network, has_priority: bool) -> str:
     """A change in words, as `s1: 10.0.0.0/24 to s4 (port 4), was s2 (port 2)`."""
     return f"{change['rule']['switch']}: {nets.change_words(change['do'], change['rule'], change['before'], network, has_priority)}"
 
 
-def plan_lines(name, values, network, rules):
+def plan_lines(name: str, values: dict[str, Any], network: Network, rules: Sequence[dict[str, Any]]) -> list[str]:
     counts, rounds = values["counts"], values["rounds"]
     changes = sum(counts.values())
     priorities = {one["rule"]["priority"] for it in rounds for one in it["changes"]} | {one["priority"] for one in rules or []}
@@ -153,13 +164,13 @@ def plan_lines(name, values, network, rules):
     return lines
 
 
-def tag_words(tag, labels):
+def tag_words(tag: int, labels: dict[str, str]) -> str:
     """A tag, and which packets carry it."""
     user = labels.get(str(tag))
     return f"{tag}" if user is None else f"{tag} for {'untagged packets' if user == 'untagged' else f'packets with VLAN {user}'}"
 
 
-def duration(seconds):
+def duration(seconds: float) -> str:
     if seconds < 120:
         return f"{seconds:g} s"
     minutes = round(seconds / 60)
@@ -168,7 +179,7 @@ def duration(seconds):
 
 # ---- a configuration, a schedule
 
-def configuration_values(rules, network):
+def configuration_values(rules: Sequence[dict[str, Any]], network: Network) -> dict[str, Any]:
     by_switch = []
     for name, capacity in zip(network.names, network.capacities):
         mine = sorted((one for one in rules if one["switch"] == name), key=lambda one: (-one["priority"], nets.prefix(one["dst"]), str(one.get("in_port", ""))))
@@ -176,7 +187,7 @@ def configuration_values(rules, network):
     return {"rules": len(rules), "switches": by_switch}
 
 
-def configuration_lines(name, values, network):
+def configuration_lines(name: str, values: dict[str, Any], network: Network) -> list[str]:
     lines = [f"{name}: {counted(values['rules'], 'rule')} at {counted(sum(bool(one['rules']) for one in values['switches']), 'switch', 'switches')}"]
     for one in values["switches"]:
         lines += ["", f"{one['switch']}: {len(one['rules'])} of {one['capacity']} entries"]
@@ -184,7 +195,7 @@ def configuration_lines(name, values, network):
     return lines
 
 
-def schedule_lines(shown, network):
+def schedule_lines(shown: Shown, network: Network) -> list[str]:
     """The events of a schedule in words: whole where the old configuration and the plan are given."""
     path = shown.files["schedule"]
     name = shown.names.shown(path)
@@ -200,7 +211,7 @@ def schedule_lines(shown, network):
     return [f"{name}: {counted(len(lines), 'event')}, {replay.splitlines()[-1]} rounds", "", *lines]
 
 
-def parser_of():
+def parser_of() -> argparse.ArgumentParser:
     parser = argparse.ArgumentParser(prog="planner show", description="Shows a plan, a configuration or a schedule in words.")
     parser.add_argument("files", metavar="FILE", nargs="+", help="the topology, or a folder; and behind it the file that is shown: before a plan the old configuration, "
                         "and before a schedule both, where they are there; of two configurations it is shown what differs")
@@ -209,7 +220,7 @@ def parser_of():
     return parser
 
 
-def main(words):
+def main(words: Sequence[str]) -> int:
     asked = parser_of().parse_args(words)
     try:
         shown = Shown(asked.files)

@@ -1,5 +1,7 @@
 """The words of the planner: its commands, what stands behind each, and what each does. Help, manual, completion and the table of the README are made of
 them; `tools/manual.py` writes those files, and the tests of tools/ compare them."""
+from __future__ import annotations
+
 
 # What the words behind a command name. In the usage of a command a word in brackets may be left out.
 FILES = {
@@ -27,10 +29,10 @@ CHOICES = {"KIND": ("ordered", "two-phase")}
 class Command:
     """A command: its name, the words behind it, what it answers in a line, and in more words."""
 
-    def __init__(self, name, usage, answer, text, is_proved=True):
+    def __init__(self, name: str, usage: str, answer: str, text: str, is_proved: bool = True) -> None:
         self.name, self.usage, self.answer, self.text, self.is_proved = name, usage, answer, text, is_proved
 
-    def words(self):
+    def words(self) -> tuple[list[str], int]:
         """The words behind the command, without brackets, and how many of them must be there."""
         found = self.usage.replace("]", "").split()
         least = next((at for at, word in enumerate(found) if word.startswith("[")), len(found))
@@ -219,7 +221,7 @@ WISHES = [
 BY_NAME = {command.name: command for command in COMMANDS}
 
 
-def wish_lines():
+def wish_lines() -> list[str]:
     """What there is for whom, in short."""
     return [f"{', '.join(names)}: {wish}" for wish, names in WISHES]
 
@@ -299,7 +301,7 @@ STATUSES = [
 ]
 
 
-def help_text():
+def help_text() -> str:
     """The text of `planner --help`."""
     import textwrap
 
@@ -316,7 +318,7 @@ def help_text():
     return "\n".join(lines) + "\n"
 
 
-def command_help(command):
+def command_help(command: Command) -> str:
     """The text of `planner COMMAND --help`, for a command of the program."""
     import textwrap
 

@@ -3,6 +3,8 @@
 A graph has nodes and edges. What it hasn't are port numbers, hosts, VLANs, tags and the capacities of switches. Ports are numbered from 1 at each
 switch: those of its links in the order of the edges, then its host port; the rest is asked for.
 """
+from __future__ import annotations
+
 import argparse
 import re
 import unicodedata
@@ -10,6 +12,10 @@ import xml.etree.ElementTree as xml
 
 from planner_tools.convert.common import NAME, UNWRITABLE, NotConverted, Topology, capacity, checked, name_list, nearest, read_bytes, run, say, tag_range, vlan_list
 from planner_tools.convert.weights import distance, speed, weights_text
+
+TYPE_CHECKING = False
+if TYPE_CHECKING:
+    from typing import Any, Callable, Sequence
 
 LONGEST_NAME = 32
 # Switches without a host port, for `--hosts`.
@@ -19,7 +25,7 @@ ALL = "all"
 class Graph:
     """The nodes of a graph, each with its label and its further values, and its edges."""
 
-    def __init__(self, path):
+    def __init__(self, path: str) -> None:
         try:
             root = xml.fromstring(read_bytes(path))
         except xml.ParseError as fault:
@@ -33,7 +39,7 @@ class Graph:
         if children(graph, "hyperedge"):
             raise NotConverted(f"{path}: it has hyperedges, and a link joins two switches")
         keys = {key.get("id"): key.get("attr.name") for key in children(root, "key")}
-        self.nodes = {}
+        self.nodes: dict[str, dict[str, str]] = {}
         for node in children(graph, "node"):
             if node.get("id") is None or node.get("id") in self.nodes:
                 raise NotConverted(f"{path}: node {node.get('id')!r} has no id, or stands twice")
@@ -44,33 +50,33 @@ class Graph:
         if unknown:
             raise NotConverted(f"{path}: an edge names node {unknown[0]!r}, which isn't there")
 
-    def label(self, node):
+    def label(self, node: str) -> str:
         return self.nodes[node].get("label") or ""
 
 
-def values_of(element, keys):
+def values_of(element: xml.Element, keys: dict[str, str]) -> dict[str, str]:
     """What a node or an edge says of itself, by names."""
     return {keys.get(data.get("key"), data.get("key")): (data.text or "").strip() for data in children(element, "data")}
 
 
-def local(element):
+def local(element: xml.Element) -> str:
     return element.tag.rpartition("}")[2]
 
 
-def children(element, name):
+def children(element: xml.Element, name: str) -> list[xml.Element]:
     return [child for child in element if local(child) == name]
 
 
-def plain(text):
+def plain(text: str) -> str:
     """A label in the letters that a switch's name may have: accents are taken from letters, and other signs become `_`."""
     bare = unicodedata.normalize("NFKD", text).encode("ascii", "ignore").decode()
     return re.sub(r"[^A-Za-z0-9-]+", "_", bare).strip("_")[:LONGEST_NAME]
 
 
-def names_of(graph):
+def names_of(graph: Graph) -> dict[str, str]:
     """The name of each node: its label, where it has one that no other node has, otherwise the label with the node's id, or the id alone."""
     wanted = {node: plain(graph.label(node)) if graph.label(node) != "None" else "" for node in graph.nodes}
-    count = {}
+    count: dict[str, int] = {}
     for name in wanted.values():
         count[name.lower()] = count.get(name.lower(), 0) + 1
     names, taken = {}, set()
@@ -87,7 +93,7 @@ def names_of(graph):
     return names
 
 
-def host_switches(graph, names, wanted, switches):
+def host_switches(graph: Graph, names: dict[str, str], wanted: Sequence[str], switches: list[str]) -> list[str]:
     """The nodes that get a host port."""
     if wanted == [ALL]:
         return switches
@@ -98,7 +104,7 @@ def host_switches(graph, names, wanted, switches):
     return [by_word[word] for word in dict.fromkeys(wanted)]
 
 
-def topology_of(graph, options):
+def topology_of(graph: Graph, options: argparse.Namespace) -> Topology:
     names = names_of(graph) if options.names == "labels" else {node: re.sub(r"[^A-Za-z0-9_-]", "_", node) for node in graph.nodes}
     outside = {node for node, values in graph.nodes.items() if values.get("Internal") == "0"} if options.external == "hosts" else set()
     for node, name in names.items():
@@ -111,7 +117,7 @@ def topology_of(graph, options):
     for node, name in names.items():
         if node not in outside:
             topology.add_switch(name, options.capacity)
-    hosts, topology.edge_of = [], []         # for each link the number of its edge
+    hosts = []
     for at, (one, other) in enumerate(graph.edges):
         if one in outside and other in outside:
             continue
@@ -135,7 +141,7 @@ def topology_of(graph, options):
     return topology
 
 
-def write_weights(path, measure, graph, topology):
+def write_weights(path: str, measure: Callable[..., Any], graph: Graph, topology: Topology) -> None:
     """Writes the weights of the links into a file, and tells which links have none."""
     text, lacking = weights_text(measure, graph, list(zip(topology.links, topology.edge_of)))
     try:
@@ -148,7 +154,7 @@ def write_weights(path, measure, graph, topology):
             f"{' and more' if len(lacking) > 8 else ''}")
 
 
-def convert(words):
+def convert(words: Sequence[str]) -> str:
     parser = argparse.ArgumentParser(prog="planner from-graphml", description="Makes a topology of a graph in GraphML, as the Internet Topology Zoo has them, and writes it.")
     parser.add_argument("file", metavar="FILE", help="- is the standard input")
     parser.add_argument("--hosts", metavar="NAME,..", type=name_list, help="the switches that have a host port, by name or id of the node; `all`")
@@ -177,5 +183,5 @@ def convert(words):
     return text
 
 
-def main(words):
+def main(words: Sequence[str]) -> int:
     return run(convert, words)

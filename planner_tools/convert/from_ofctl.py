@@ -2,6 +2,8 @@
 
 The entries are written as the flow statistics that the switches would send, and `planner import` reads those: it decides what they mean.
 """
+from __future__ import annotations
+
 import argparse
 import json
 import os
@@ -13,6 +15,12 @@ from planner_tools import program
 from planner_tools.convert.common import BAD_FILE, REFUSED, UNREADABLE, WRONG_WORDS, NotConverted, nearest, read_text, run, say
 from planner_tools.convert.flow_text import FlowText
 from planner_tools.switches.entries import Entry
+
+TYPE_CHECKING = False
+if TYPE_CHECKING:
+    from typing import Iterator, Sequence
+
+    from planner_tools.convert.flow_text import TextEntry
 
 # How many entries a message of statistics has here: its length is a number of 16 bits.
 ENTRIES_PER_MESSAGE = 500
@@ -31,9 +39,12 @@ IMPORT_WORDS = {
 class Table:
     """The text of one bridge: what it's called, where it came from, and its entries."""
 
-    def __init__(self, switch, path, may_drop):
+    def __init__(self, switch: str, path: str, may_drop: bool) -> None:
         self.switch, self.path = switch, path
-        self.kept, self.faults, self.droppable, self.left_out = [], [], 0, {}
+        self.droppable = 0
+        self.kept: list[TextEntry] = []
+        self.faults: list[str] = []
+        self.left_out: dict[str, int] = {}
         text = FlowText(read_text(path), switch)
         self.faults += [f"{path}:{number}: {switch}: the line {why}" for number, why in text.bad]
         if text.is_version_1_0:
@@ -44,7 +55,7 @@ class Table:
         for entry in text.entries:
             self.take(entry, may_drop, text.is_newer)
 
-    def take(self, entry, may_drop, is_newer):
+    def take(self, entry: TextEntry, may_drop: bool, is_newer: bool) -> None:
         why, fault = entry.without_effect(), entry.fault()
         if fault and MASKED_UNTAGGED in fault and is_newer:
             fault += "; untagged entries look so in an answer by a newer version: ask again without -O"
@@ -57,10 +68,10 @@ class Table:
         else:
             self.kept.append(entry)
 
-    def place(self, entry):
+    def place(self, entry: TextEntry) -> str:
         return f"{self.path}:{entry.number}: {self.switch}: {entry.words}"
 
-    def messages(self):
+    def messages(self) -> Iterator[str]:
         """The lines of the flow statistics, for `planner import`."""
         pieces = [self.kept[at:at + ENTRIES_PER_MESSAGE] for at in range(0, len(self.kept), ENTRIES_PER_MESSAGE)]
         for number, piece in enumerate(pieces, 1):
@@ -68,7 +79,7 @@ class Table:
             yield f"{self.switch} {(struct.pack('!BBHIHH', 1, 17, 12 + len(body), 1, 1, number < len(pieces)) + body).hex()}\n"
 
 
-def names_of(path):
+def names_of(path: str) -> list[str]:
     """The switches of a topology. Whether it is one the program says, when it reads it."""
     try:
         names = [one["name"] for one in json.loads(read_text(path))["switches"]]
@@ -77,7 +88,7 @@ def names_of(path):
     return names
 
 
-def read_tables(topology, given, may_drop):
+def read_tables(topology: str, given: Sequence[str], may_drop: bool) -> list[Table]:
     """The tables of the bridges that are given."""
     names, found = names_of(topology), {}
     for word in given:
@@ -96,7 +107,7 @@ def read_tables(topology, given, may_drop):
     return [Table(switch, path, may_drop) for switch, path in found.items()]
 
 
-def refuse_faults(tables):
+def refuse_faults(tables: Sequence[Table]) -> None:
     """Refuses all entries at once that a configuration can't say."""
     faults = [fault for table in tables for fault in table.faults]
     if not faults:
@@ -110,7 +121,7 @@ def refuse_faults(tables):
     raise NotConverted([*faults, f"{len(faults)} of the lines can't be said in a configuration: they stand above"], then, REFUSED)
 
 
-def other_of(entry, table, word):
+def other_of(entry: TextEntry, table: Table, word: str) -> str:
     """Where the earlier entry stands with which an entry collides."""
     priority, in_port, vlan, base, length = Entry(entry.data()).test()
     for other in table.kept[:table.kept.index(entry)]:
@@ -123,7 +134,7 @@ def other_of(entry, table, word):
     return ""
 
 
-def import_fault(text, topology, tables):
+def import_fault(text: str, topology: str, tables: Sequence[Table]) -> str:
     """What `planner import` said, with the line of the text that it means."""
     found = re.fullmatch(r"bad replies: \d+ (\w+)(?: \w+)? at (\d+)\n", text)
     if not found:
@@ -141,7 +152,7 @@ def import_fault(text, topology, tables):
     return text.rstrip("\n")
 
 
-def configuration(topology, tables):
+def configuration(topology: str, tables: Sequence[Table]) -> str:
     """The configuration that `planner import` makes of the entries."""
     with tempfile.TemporaryDirectory() as folder:
         replies = os.path.join(folder, "replies")
@@ -152,12 +163,12 @@ def configuration(topology, tables):
         except program.CannotRun as fault:
             raise NotConverted(str(fault), status=program.NO_PROGRAM) from fault
     if status != 0:
-        fault = import_fault(text, topology, tables)
-        raise NotConverted(fault.replace("bad topology:", f"{topology}: bad topology:"), status=status if status in (REFUSED, BAD_FILE, UNREADABLE, 9) else program.NO_PROGRAM)
+        why = import_fault(text, topology, tables)
+        raise NotConverted(why.replace("bad topology:", f"{topology}: bad topology:"), status=status if status in (REFUSED, BAD_FILE, UNREADABLE, 9) else program.NO_PROGRAM)
     return text
 
 
-def convert(words):
+def convert(words: Sequence[str]) -> str:
     parser = argparse.ArgumentParser(prog="planner from-ofctl", description="Makes a configuration of the text of `ovs-ofctl dump-flows BRIDGE`, and writes it.")
     parser.add_argument("topology", metavar="TOPOLOGY")
     parser.add_argument("tables", metavar="BRIDGE=FILE", nargs="+", help="a switch of the topology, and the text of its table; - is the standard input. Each switch has to be given: one without "
@@ -176,5 +187,5 @@ def convert(words):
     return text
 
 
-def main(words):
+def main(words: Sequence[str]) -> int:
     return run(convert, words)

@@ -2,6 +2,8 @@
 
 Each command is strict: it names one entry by its priority and match, and says the same to the switch as the message that `planner emit` writes.
 """
+from __future__ import annotations
+
 import argparse
 import json
 import os
@@ -13,11 +15,15 @@ from planner_tools.proved import beside
 from planner_tools.switches.connections import Stop, address_words, listed_address
 from planner_tools.words import IN_FOLDER
 
+TYPE_CHECKING = False
+if TYPE_CHECKING:
+    from typing import Any, Sequence
+
 # The command for each change. `ovs-ofctl` waits for the barrier reply of the switch before it ends, and its status tells of an error.
 COMMANDS = {"insert": "add-flow", "replace": "--strict mod-flows", "delete": "--strict del-flows"}
 
 
-def rounds_of(path):
+def rounds_of(path: str) -> list[list[tuple[str, dict[str, Any]]]]:
     """The rounds of a plan of either format: lists of what to do and the rule."""
     try:
         plan = json.loads(read_text(path))
@@ -28,7 +34,7 @@ def rounds_of(path):
         raise NotConverted(f"{path}: it is no plan", "`planner check` says what of it can't be read") from fault
 
 
-def match_of(rule):
+def match_of(rule: dict[str, Any]) -> str:
     """The priority and the match, which name an entry."""
     words = [f"priority={rule['priority']}", "ip"]
     words += [f"in_port={rule['in_port']}"] if rule.get("in_port", "any") != "any" else []
@@ -37,26 +43,27 @@ def match_of(rule):
     return ",".join([*words, f"nw_dst={rule['dst']}"])
 
 
-def actions_of(rule):
+def actions_of(rule: dict[str, Any]) -> str:
     if rule["out"] == "drop":
         return "drop"
     rewrite = f"mod_vlan_vid:{rule['set']}," if "set" in rule else "strip_vlan," if rule.get("strip") else ""
     return f"{rewrite}output:{rule['out']}"
 
 
-def command_of(do, rule, targets):
+def command_of(do: str, rule: dict[str, Any], targets: dict[str, str]) -> str:
     """The line that makes a change."""
     match = match_of(rule)
     flow = match if do == "delete" else f"{match},actions={actions_of(rule)}"
     return f"ovs-ofctl -O OpenFlow10 {COMMANDS[do]} {shlex.quote(targets.get(rule['switch'], rule['switch']))} {shlex.quote(flow)}"
 
 
-def refused(path):
+def refused(path: str) -> str | None:
     """Why `planner check` refuses a plan, in its words, or None; the files of the update are looked for beside the plan, and in the folder above an update's."""
     folder = os.path.dirname(path) or "."
-    files = [beside(folder, IN_FOLDER[word]) for word in ("TOPO", "OLD", "NEW", "POLICY")]
+    beside_it = [beside(folder, IN_FOLDER[word]) for word in ("TOPO", "OLD", "NEW", "POLICY")]
+    files = [one for one in beside_it if one is not None]
     note = f"{path}: note: whether it is certified wasn't looked at: `planner check TOPO OLD NEW POLICY {path}` says it"
-    if None in files:
+    if len(files) < len(beside_it):
         say(note)
         return None
     try:
@@ -71,7 +78,7 @@ def refused(path):
     return said
 
 
-def script_of(number, rounds, plan, targets, why=None):
+def script_of(number: int, rounds: Sequence[Sequence[tuple[str, dict[str, Any]]]], plan: str, targets: dict[str, str], why: str | None = None) -> str:
     """The script of a round."""
     changes = rounds[number - 1]
     lines = ["#!/bin/sh", f"# Round {number} of {len(rounds)} of {os.path.basename(plan).translate({10: ' ', 13: ' '})}: {len(changes)} changes, in any order.",
@@ -82,9 +89,9 @@ def script_of(number, rounds, plan, targets, why=None):
     return "\n".join([*lines, f"echo 'round {number} of {len(rounds)} is done'"]) + "\n"
 
 
-def read_targets(path):
+def read_targets(path: str) -> dict[str, str]:
     """Where each switch listens, from a file of switches."""
-    targets = {}
+    targets: dict[str, str] = {}
     for number, line in enumerate(read_text(path).splitlines(), 1):
         words = line.split("#")[0].split()
         if words and not 2 <= len(words) <= 3:
@@ -96,7 +103,7 @@ def read_targets(path):
     return targets
 
 
-def write_scripts(folder, scripts):
+def write_scripts(folder: str, scripts: Sequence[tuple[str, str]]) -> None:
     """Writes each script. A folder that has files already isn't touched."""
     try:
         os.makedirs(folder, exist_ok=True)
@@ -110,7 +117,7 @@ def write_scripts(folder, scripts):
         raise NotConverted(f"{fault.filename or folder}: it can't be written: {fault.strerror}", status=UNWRITABLE) from fault
 
 
-def convert(words):
+def convert(words: Sequence[str]) -> str:
     parser = argparse.ArgumentParser(prog="planner to-ofctl", description="Writes the rounds of a plan as commands of `ovs-ofctl`, a script for each round.")
     parser.add_argument("plan", metavar="PLAN")
     parser.add_argument("folder", metavar="FOLDER", nargs="?", help="where the scripts are written, a new or an empty folder; PLAN without its ending, and `-rounds`")
@@ -130,5 +137,5 @@ def convert(words):
     return "".join(f"{os.path.join(folder, name)}\n" for name, _ in scripts)
 
 
-def main(words):
+def main(words: Sequence[str]) -> int:
     return run(convert, words)

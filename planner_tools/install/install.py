@@ -1,4 +1,6 @@
 """`planner install`: puts the program, the front end, manual pages, completions and examples under a prefix."""
+from __future__ import annotations
+
 import argparse
 import os
 import sys
@@ -6,10 +8,14 @@ import sys
 from planner_tools import program
 from planner_tools.install import files, toolchain
 
+TYPE_CHECKING = False
+if TYPE_CHECKING:
+    from typing import Sequence
+
 DEFAULT = "/usr/local"
 
 
-def main(words):
+def main(words: Sequence[str]) -> int:
     parser = argparse.ArgumentParser(prog="planner install", description="Puts the program, this front end, manual pages, completions and examples in their places under a prefix. "
                                      "It is done from a checkout, with the program of dist/; where that was built from other sources, the program is proved and built first.")
     parser.add_argument("prefix", metavar="PREFIX", nargs="?", default=DEFAULT, help=f"{DEFAULT}: then the command is PREFIX/bin/planner")

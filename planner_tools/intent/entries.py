@@ -1,18 +1,27 @@
 """What differs between two configurations, entry by entry: for `planner show`."""
+from __future__ import annotations
+
 from planner_tools import network as nets
 from planner_tools.files import counted
+
+TYPE_CHECKING = False
+if TYPE_CHECKING:
+    from typing import Any, Sequence
+
+    from planner_tools.network import Network
 
 KINDS = {"insert": "new", "replace": "changed", "delete": "deleted"}
 
 
-def key_of(rule):
+def key_of(rule: dict[str, Any]) -> tuple[str, int, int | str, int | str, str]:
     """What names an entry: its switch, priority and match."""
     return rule["switch"], rule["priority"], rule.get("in_port", "any"), rule.get("vlan", "any"), rule["dst"]
 
 
-def values_of(old, new, network):
+def values_of(old: Sequence[dict[str, Any]], new: Sequence[dict[str, Any]], network: Network) -> dict[str, Any]:
     """The entries that differ, by switch: what is done, the rule, and what was there before."""
     before, after = ({key_of(rule): rule for rule in rules} for rules in (old, new))
+    changes: list[tuple[str, dict[str, Any], dict[str, Any] | None]]
     changes = [("delete", rule, rule) for key, rule in before.items() if key not in after]
     changes += [("insert", rule, None) for key, rule in after.items() if key not in before]
     changes += [("replace", rule, before[key]) for key, rule in after.items() if key in before and before[key]["out"] != rule["out"]]
@@ -21,7 +30,7 @@ def values_of(old, new, network):
             "changes": [{"do": do, "rule": rule, "before": was} for do, rule, was in changes]}
 
 
-def lines_of(old_name, new_name, values, network):
+def lines_of(old_name: str, new_name: str, values: dict[str, Any], network: Network) -> list[str]:
     counts, changes = values["counts"], values["changes"]
     switches = list(dict.fromkeys(one["rule"]["switch"] for one in changes))
     has_priority = len({one["rule"]["priority"] for one in changes}) > 1

@@ -3,6 +3,8 @@
     planner page TOPO OLD NEW POLICY PLAN [--schedule FILE] > update.html
     planner page TOPO CONFIG [POLICY] > now.html
 """
+from __future__ import annotations
+
 import argparse
 import html
 import json
@@ -17,6 +19,10 @@ from planner_tools.page.values import Files
 from planner_tools.page.verdict import NoVerdict, driven, traces, verdict, verdict_of_configuration
 from planner_tools.proved import Names, say_why
 
+TYPE_CHECKING = False
+if TYPE_CHECKING:
+    from typing import Any, Sequence
+
 HERE = os.path.dirname(os.path.realpath(__file__))
 
 SCRIPTS = ("model.js", "walks.js", "search.js", "words.js", "changes.js", "picture.js", "player.js", "survey.js", "views.js", "main.js")
@@ -24,7 +30,7 @@ SCRIPTS = ("model.js", "walks.js", "search.js", "words.js", "changes.js", "pictu
 UPDATE, CONFIGURATION = 5, (2, 3)
 
 
-def asked_by(words):
+def asked_by(words: Sequence[str]) -> argparse.Namespace:
     parser = argparse.ArgumentParser(prog="planner page", usage="planner page [-h] TOPO OLD NEW POLICY PLAN [--schedule FILE] [--layout graphviz|own] [--planner PATH]\n"
                                      "       planner page [-h] TOPO CONFIG [POLICY] [--layout graphviz|own] [--planner PATH]",
                                      description="Writes a page that shows what a plan does; or, without a plan, where packets go under a configuration.")
@@ -41,12 +47,12 @@ def asked_by(words):
     return asked
 
 
-def part(name):
+def part(name: str) -> str:
     with open(os.path.join(HERE, name), encoding="utf-8") as file:
         return file.read()
 
 
-def page(values):
+def page(values: dict[str, Any]) -> str:
     """Returns the page for some values. Nothing in them can end the script in which they stand."""
     data = json.dumps(values, separators=(",", ":")).replace("<", "\\u003c")
     script = "".join(part(name) for name in SCRIPTS)
@@ -54,7 +60,7 @@ def page(values):
     return re.sub("@([A-Z]+)@", lambda place: filled[place[1]], part("page.html"))
 
 
-def values_of(asked, names):
+def values_of(asked: argparse.Namespace, names: Names) -> dict[str, Any]:
     planner, paths = asked.planner or program.path(), asked.files
     if len(paths) == UPDATE:
         said, files = verdict(planner, paths), Files(*paths)
@@ -69,7 +75,7 @@ def values_of(asked, names):
     return values
 
 
-def schedule_values(planner, update, name):
+def schedule_values(planner: str, update: Sequence[str], name: str) -> dict[str, Any]:
     """The lines of a schedule, and what `planner replay` says of it. A record of an update, which has what switches sent, is no schedule: the
     events that `planner drive` or `planner serve` says of it are one."""
     topology, old, _, _, plan = update
@@ -84,11 +90,11 @@ def schedule_values(planner, update, name):
         return {"name": name, "lines": lines_of(text), **traces(planner, topology, old, plan, file.name)}
 
 
-def lines_of(text):
+def lines_of(text: str) -> list[str]:
     return text.removesuffix("\n").split("\n") if text else []
 
 
-def words_of_refused(asked, line):
+def words_of_refused(asked: argparse.Namespace, line: str) -> tuple[str, ...]:
     """The words of the command that refused a file of the page."""
     if asked.schedule and line.startswith(("bad schedule", "planner replay")):
         return "replay", asked.files[0], asked.files[1], asked.files[4], asked.schedule
@@ -97,7 +103,7 @@ def words_of_refused(asked, line):
     return "check" if len(asked.files) == UPDATE else "config", *asked.files
 
 
-def main(words):
+def main(words: Sequence[str]) -> int:
     asked, names = asked_by(words), Names()
     asked.files = [names.real(word) for word in asked.files]
     asked.schedule = names.real(asked.schedule) if asked.schedule else None

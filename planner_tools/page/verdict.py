@@ -1,7 +1,13 @@
 """Asks the planner for what it says of an update."""
+from __future__ import annotations
+
 import subprocess
 
 from planner_tools.reasons import sentence_of
+
+TYPE_CHECKING = False
+if TYPE_CHECKING:
+    from typing import Any, Sequence
 
 HOLDS = "No packet comes to a switch twice, each that leaves has met its waypoints in their order, and none that must arrive is dropped by a switch."
 # The statuses with which the planner says yes or no; with any other one there is no page.
@@ -11,12 +17,12 @@ YES, NO, NO_RUN = 0, 1, 8
 class NoVerdict(Exception):
     """The planner gave no verdict: what it said instead, and its status."""
 
-    def __init__(self, text, status):
+    def __init__(self, text: str, status: int) -> None:
         super().__init__(text)
         self.status = status
 
 
-def ask(planner, *words):
+def ask(planner: str, *words: str) -> tuple[int, list[str]]:
     """Returns the status and the lines with which the planner answers."""
     try:
         done = subprocess.run([planner, *words], stdout=subprocess.PIPE, text=True, check=False)
@@ -25,7 +31,7 @@ def ask(planner, *words):
     return done.returncode, done.stdout.splitlines()
 
 
-def verdict(planner, files):
+def verdict(planner: str, files: Sequence[str]) -> dict[str, Any]:
     """Returns the planner's line on an update, with a sentence and the parts of the line."""
     status, lines = ask(planner, "check", *files)
     if status not in (YES, NO):
@@ -34,7 +40,7 @@ def verdict(planner, files):
     return {"accepted": status == YES, "line": lines[0], "sentence": sentence, "reason": reason}
 
 
-def verdict_of_configuration(planner, files):
+def verdict_of_configuration(planner: str, files: Sequence[str]) -> dict[str, Any]:
     """Returns the planner's line on a configuration, with a sentence and the parts of the line."""
     status, lines = ask(planner, "config", *files)
     if status not in (YES, NO):
@@ -46,10 +52,10 @@ def verdict_of_configuration(planner, files):
     return {"accepted": False, "line": lines[0], "sentence": sentence.replace("the old configuration", "this configuration"), "reason": reason}
 
 
-def driven(planner, update, record):
+def driven(planner: str, update: Sequence[str], record: str) -> str:
     """Returns the events of the record of an update, as a schedule."""
-    with open(record, "rb") as lines:
-        if any(line.startswith((b"back", b"reopen ")) for line in lines):
+    with open(record, "rb") as file:
+        if any(line.startswith((b"back", b"reopen ")) for line in file):
             return served(planner, update, record)
     status, lines = ask(planner, "drive", *update, record)
     if status != YES:
@@ -57,7 +63,7 @@ def driven(planner, update, record):
     return "".join(f"{line}\n" for line in lines if not line.startswith("# sent "))
 
 
-def served(planner, update, record):
+def served(planner: str, update: Sequence[str], record: str) -> str:
     """Returns the events of the record of an update whose sessions were opened anew. Those of one that was turned back are no schedule."""
     with open(record, "rb") as lines:
         done = subprocess.run([planner, "serve", *update], stdin=lines, stdout=subprocess.PIPE, text=True, errors="replace", check=False)
@@ -70,7 +76,7 @@ def served(planner, update, record):
     return "".join(f"{line}\n" for line in [*events, told[-1].replace("ok ", "# ", 1)])
 
 
-def traces(planner, topology, old, plan, schedule):
+def traces(planner: str, topology: str, old: str, plan: str, schedule: str) -> dict[str, Any]:
     """Returns what the planner says of a recorded run: a line for each packet and one for the whole, or the line of the first event that can't be."""
     status, lines = ask(planner, "replay", topology, old, plan, schedule)
     if status not in (YES, NO_RUN):

@@ -30,6 +30,8 @@ answered, and INPUT.before.json and INPUT.after.json the configurations.
 Exit status: 0 all rounds are settled and the switches have NEW, or with --back none is and they have OLD; 1 stopped, a line says why, how far it came, and
 what to do next; 2 wrong words; 3 warnings, with --strict: nothing was sent.
 """
+from __future__ import annotations
+
 import argparse
 import hashlib
 import pathlib
@@ -62,7 +64,7 @@ MODES = re.compile(r"--(?:resume|back)(?: --(?:repair|take-over|recover|no-mark)
 class Update:
     """An update, round by round: a conversation with the program and the switches, the comparison of their tables, the marks on them, and the pace of rounds."""
 
-    def __init__(self, options: argparse.Namespace):
+    def __init__(self, options: argparse.Namespace) -> None:
         self.options = options
         listed = read_switches(options.switches, options.topology)
         self.lock = lock(options.switches)

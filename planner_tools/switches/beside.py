@@ -15,7 +15,7 @@ def path() -> str:
         raise not_run(fault) from None
 
 
-def not_run(fault: Exception) -> Stop:
+def not_run(fault: BaseException) -> Stop:
     """What it is that the program can't be run."""
     return Stop(f"the program can't be run: {fault}", "see that it is there; then do the same again, with --resume where a record is there")
 

@@ -1,4 +1,6 @@
 """What the switches have, beside what they must have: read, compared, told, and put right."""
+from __future__ import annotations
+
 import argparse
 import json
 import struct
@@ -26,7 +28,7 @@ NOTED, TRIES = 50, 3
 class Comparison:
     """Compares the tables of the switches with what they must have."""
 
-    def __init__(self, options: argparse.Namespace, conversation: Conversation, marking: Marking, pace: Pace):
+    def __init__(self, options: argparse.Namespace, conversation: Conversation, marking: Marking, pace: Pace) -> None:
         self.options, self.conversation, self.marking, self.pace = options, conversation, marking, pace
         self.record = conversation.record
         self.expected: tuple[int, Expected] | None = None        # what the switches must have, and how much `serve` had been given by then
@@ -240,7 +242,7 @@ class Comparison:
 class MissingMark:
     """The mark of the update isn't on a switch where it was put."""
 
-    def __init__(self, switch: str, mark: Mark):
+    def __init__(self, switch: str, mark: Mark) -> None:
         self.switch, self.mark = switch, mark
 
     def __str__(self) -> str:

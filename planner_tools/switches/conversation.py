@@ -1,4 +1,6 @@
 """What `planner apply` says to the program and to the switches, and hears from them. Every message that comes is noted before anything follows from it."""
+from __future__ import annotations
+
 import argparse
 import contextlib
 import math
@@ -53,7 +55,7 @@ class Follower(Protocol):
 class Conversation:
     """The record, the session of the library that is given its lines, and the switches."""
 
-    def __init__(self, options: argparse.Namespace, listed: Listed, record: Record, times: AnswerTimes, follower: Follower):
+    def __init__(self, options: argparse.Namespace, listed: Listed, record: Record, times: AnswerTimes, follower: Follower) -> None:
         self.options, self.listed, self.record, self.times, self.follower = options, listed, record, times, follower
         self.session: planner.Session | None = None      # there is one when `serve` has taken the lines of the record
         self.followed = 0                # how often lines were given to it

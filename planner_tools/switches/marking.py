@@ -1,4 +1,6 @@
 """The marks on the switches while an update is carried out: its own, which it puts and takes away, and those of others."""
+from __future__ import annotations
+
 import argparse
 from typing import Sequence
 
@@ -12,7 +14,7 @@ from planner_tools.switches.record import MARKED, UNMARKED
 class Marking:
     """The mark of an update, and the marks of others that are seen."""
 
-    def __init__(self, options: argparse.Namespace, conversation: Conversation):
+    def __init__(self, options: argparse.Namespace, conversation: Conversation) -> None:
         self.options, self.conversation, self.record = options, conversation, conversation.record
         self.mark = Mark(self.record.token, self.record.begun)
         self.is_marked = False           # whether each switch has, or should have, the mark

@@ -7,11 +7,17 @@ taken away when the update is over.
 
 These are the only messages that are made here and change a table.
 """
+from __future__ import annotations
+
 import datetime
 import struct
 
 from planner_tools.switches import openflow
 from planner_tools.switches.connections import OWN
+
+TYPE_CHECKING = False
+if TYPE_CHECKING:
+    from planner_tools.switches.entries import Entry
 
 MARK_XID = OWN + 0x10
 MARK_BARRIER = OWN + 0x11
@@ -27,37 +33,37 @@ ADD, DELETE_STRICT = 0, 4
 class Mark:
     """A mark: six bytes that stand for the update, and the second at which it was begun."""
 
-    def __init__(self, token, begun):
+    def __init__(self, token: bytes, begun: int) -> None:
         self.token, self.begun = token, begun
 
     @staticmethod
-    def of(entry):
+    def of(entry: Entry) -> Mark | None:
         """The mark that an entry of statistics of OpenFlow 1.0 is, or None."""
         is_mark = (entry.table == 0 and entry.is_exact(4) and entry.is_exact(2) and entry.type == TYPE and entry.priority == PRIORITY
                    and entry.cookie >> 32 == COOKIE >> 32)
         return Mark(entry.source, entry.cookie & 0xFFFFFFFF) if is_mark else None
 
-    def __eq__(self, other):
+    def __eq__(self, other: object) -> bool:
         return isinstance(other, Mark) and self.token == other.token
 
-    def __hash__(self):
+    def __hash__(self) -> int:
         return hash(self.token)
 
-    def __str__(self):
+    def __str__(self) -> str:
         try:
             begun = datetime.datetime.fromtimestamp(self.begun, datetime.timezone.utc).strftime("%Y-%m-%d %H:%M:%S UTC")
         except (OverflowError, ValueError):
             begun = "an unknown time"
         return f"{self.token.hex()}, begun {begun}"
 
-    def put(self):
+    def put(self) -> bytes:
         """The messages that put it on a switch."""
         return self.message(ADD)
 
-    def take_away(self):
+    def take_away(self) -> bytes:
         return self.message(DELETE_STRICT)
 
-    def message(self, command):
+    def message(self, command: int) -> bytes:
         match = struct.pack("!IH6s6xHBxH16x", WILDCARDS, 0, self.token, 0, 0, TYPE)
         body = match + struct.pack("!QHHHHIHH", COOKIE | self.begun & 0xFFFFFFFF, command, 0, 0, PRIORITY, 0xFFFFFFFF, 0xFFFF, 0)
         return openflow.message(openflow.FLOW_MOD, MARK_XID, body) + openflow.message(openflow.BARRIER_REQUEST, MARK_BARRIER)

@@ -1,4 +1,6 @@
 """The pace of an update: how long is waited between its rounds, how long they take, and which switches are slow."""
+from __future__ import annotations
+
 import argparse
 import math
 import os
@@ -36,7 +38,7 @@ class AnswerTimes:
 class Pace:
     """When the rounds of this run began and were settled."""
 
-    def __init__(self, options: argparse.Namespace):
+    def __init__(self, options: argparse.Namespace) -> None:
         self.options = options
         self.times = AnswerTimes()
         self.settled_at = time.monotonic()       # since when packets may be under way by what was settled last

@@ -1,4 +1,6 @@
 """How long is waited for the program, and for the switches. Of what takes long it is told that it does, and it is Stop where the patience is at its end."""
+from __future__ import annotations
+
 import time
 from typing import Callable, Collection
 
@@ -13,7 +15,7 @@ TELL_PROGRAM, LEAST = 10.0, 20.0
 class ProgramPatience:
     """The patience with a run of the program."""
 
-    def __init__(self, seconds: float):
+    def __init__(self, seconds: float) -> None:
         self.seconds = seconds
         self.command: str | None = None          # which command is waited for, or None
         self.since = self.most = self.told = 0.0         # since when, for how long, and when that was said last
@@ -43,7 +45,7 @@ class ProgramPatience:
 class SwitchPatience:
     """The patience with the switches."""
 
-    def __init__(self, seconds: float):
+    def __init__(self, seconds: float) -> None:
         self.seconds = seconds
         self.since: dict[str, float] = {}        # since when each switch is waited for
         self.told = time.monotonic()             # when that was said last

@@ -1,5 +1,11 @@
 """What becomes of packets outside of the model while an update is carried out, and of what the switches keep beside their entries: said before the question."""
+from __future__ import annotations
+
 import re
+
+TYPE_CHECKING = False
+if TYPE_CHECKING:
+    from typing import Any, Sequence
 
 # Entries above this priority are those that a two-phase plan puts in and takes away again.
 LAST_PRIORITY = 16383
@@ -7,14 +13,14 @@ TO_CONTROLLER = re.compile(r"^# (\S+): what no entry takes is sent to the contro
 COOKIES = re.compile(r"^# (\S+): (\d+) of its entries have a cookie$", re.M)
 
 
-def meanwhile(plan, old, replies):
+def meanwhile(plan: dict[str, Any], old: Sequence[dict[str, Any]], replies: str) -> list[str]:
     """Sentences for a plan in format 2, the rules that the switches have, and the text of the file REPLIES."""
     return [*dropped(plan, old, set(TO_CONTROLLER.findall(replies))), *cookies(plan, dict(COOKIES.findall(replies)))]
 
 
-def spans(plan):
+def spans(plan: dict[str, Any]) -> dict[str, tuple[int, int]]:
     """By switch the rounds, from the first to the last one, in which a two-phase plan has entries that drop at an ingress port all that its other ones don't take."""
-    found = {}
+    found: dict[str, tuple[int, int]] = {}
     for number, changes in enumerate(plan["rounds"], 1):
         for _, at in changes:
             rule = plan["rules"][at]
@@ -23,7 +29,7 @@ def spans(plan):
     return found
 
 
-def dropped(plan, old, to_controller):
+def dropped(plan: dict[str, Any], old: Sequence[dict[str, Any]], to_controller: set[str]) -> list[str]:
     """Which packets are dropped in which rounds that aren't now."""
     lines = []
     for switch, (first, last) in spans(plan).items() if plan["kind"] == "two-phase" else ():
@@ -35,7 +41,7 @@ def dropped(plan, old, to_controller):
     return lines
 
 
-def cookies(plan, counts):
+def cookies(plan: dict[str, Any], counts: dict[str, str]) -> list[str]:
     """That entries with cookies lose them where they are put back."""
     changed = {plan["rules"][at]["switch"] for changes in plan["rounds"] for do, at in changes if do != "insert"}
     names = sorted(name for name in counts if name in changed)
