@@ -34,7 +34,9 @@ def ring_of_many_ports() -> dict[str, Any]:
     for port in range(3, 64):
         links += [[f"{names[i]}:{port}", f"{names[i + 64]}:{port}"] for i in range(64)]
     hosts = [f"{name}:64" for name in names]
-    return {"switches": switches(128, 8192), "links": links, "hosts": hosts, "vlans": ["untagged"], "tags": [3000, 3009]}
+    return {
+        "switches": switches(128, 8192), "links": links, "hosts": hosts, "vlans": ["untagged"], "tags": [3000, 3009],
+    }
 
 
 def trees(prefixes: int) -> dict[str, Any]:
@@ -43,7 +45,9 @@ def trees(prefixes: int) -> dict[str, Any]:
     for i in range(128):
         for j in range(prefixes):
             home = j * (128 // prefixes)
-            rules.append({"switch": f"switch-{i}", "priority": 100, "dst": f"10.0.{j}.0/24", "out": 64 if i == home else 1})
+            rules.append(
+                {"switch": f"switch-{i}", "priority": 100, "dst": f"10.0.{j}.0/24", "out": 64 if i == home else 1}
+            )
     return {"rules": rules}
 
 
@@ -53,13 +57,20 @@ def main() -> None:
         (folder / "topology.json").write_text(filled(ring_of_many_ports()))
         (folder / "config.json").write_text(filled(trees(16)))
         measure.sizes(folder, "topology.json", "config.json")
-        measure.run("128 switches of 64 ports, 2048 rules, long paths", ["config", "topology.json", "config.json"], folder)
+        measure.run(
+            "128 switches of 64 ports, 2048 rules, long paths", ["config", "topology.json", "config.json"], folder
+        )
 
         one = {"switches": switches(1, 8192), "links": [], "hosts": [f"switch-0:{p}" for p in range(1, 65)],
                "vlans": list(range(1, 65)), "tags": []}
         (folder / "topology.json").write_text(json.dumps(one))
-        rules = [{"switch": "switch-0", "priority": 16383 - i, "in_port": 1 + i % 64, "vlan": 1 + i // 64 % 64, "dst": "128.0.0.0/1",
-                  "out": 1 + (i + 1) % 64} for i in range(2048)]
+        rules = [
+            {
+                "switch": "switch-0", "priority": 16383 - i, "in_port": 1 + i % 64, "vlan": 1 + i // 64 % 64,
+                "dst": "128.0.0.0/1", "out": 1 + (i + 1) % 64,
+            }
+            for i in range(2048)
+        ]
         (folder / "config.json").write_text(json.dumps({"rules": rules}))
         measure.run("one switch with 2048 rules, 8192 classes", ["config", "topology.json", "config.json"], folder)
         rules = [{**rule, "priority": 100} for rule in rules]

@@ -1,6 +1,6 @@
 #!/usr/bin/env python3
-"""Times `drive`: the square network's plan with much that comes from one switch, in pieces of one byte and in long ones, and a whole
-update of a ring of 128 switches. Prints time and memory; tests nothing."""
+"""Times `drive`: the square network's plan with much that comes from one switch, in pieces of one byte and in long
+ones, and a whole update of a ring of 128 switches. Prints time and memory; tests nothing."""
 from __future__ import annotations
 
 import json
@@ -45,7 +45,9 @@ def main() -> None:
             shutil.copy(measure.ROOT / "examples" / "square" / f"{file}.json", folder)
         inputs = {
             "a million pieces of one byte": pieces(HELLO + ECHO * 124999, 2),
-            "echo requests of 1 KiB in pieces of 1460 bytes, 64 MiB": pieces(HELLO + ("01020400" + "0" * 2040) * 32600, 2920),
+            "echo requests of 1 KiB in pieces of 1460 bytes, 64 MiB": pieces(
+                HELLO + ("01020400" + "0" * 2040) * 32600, 2920
+            ),
             "one piece of 32 MiB": pieces(HELLO + ECHO * 4194000, 1 << 30),
         }
         for title, text in inputs.items():
@@ -54,7 +56,10 @@ def main() -> None:
             measure.run(title, WORDS, folder)
         ring = Ring(128, 4)
         plan = ring.ordered_plan()
-        files = {"topology": ring.topology(), "old": ring.config(2), "new": ring.config(3), "policy": ring.policy(), "plan": plan}
+        files = {
+            "topology": ring.topology(), "old": ring.config(2), "new": ring.config(3), "policy": ring.policy(),
+            "plan": plan,
+        }
         for file, value in files.items():
             (folder / f"{file}.json").write_text(json.dumps(value))
         (folder / "input").write_text(updated(ring, plan))

@@ -15,7 +15,8 @@ ROOT = pathlib.Path(__file__).resolve().parent.parent
 
 
 def program() -> pathlib.Path:
-    """The built program: that of the variable PLANNER, or the repository's own, which is built where that of dist/ can't be run."""
+    """The built program: that of the variable PLANNER, or the repository's own, which is built where that of dist/
+    can't be run."""
     sys.path.insert(0, str(ROOT))
     from planner_tools import program as own
     return pathlib.Path(own.built()).absolute()
@@ -31,7 +32,10 @@ def run(title: str, words: Sequence[str], folder: pathlib.Path, shown: int = 70)
     child.returncode = os.waitstatus_to_exitcode(status)
     seconds = time.monotonic() - before
     line = text[:shown].decode().split("\n")[0]
-    print(f"{title}: status {child.returncode}, {seconds:.2f} s, {usage.ru_maxrss / 1024:.0f} MB, {len(text)} bytes: {line}")
+    print(
+        f"{title}: status {child.returncode}, {seconds:.2f} s, {usage.ru_maxrss / 1024:.0f} MB, {len(text)} bytes:"
+        f" {line}"
+    )
     sys.stdout.flush()
     return text
 

@@ -1,7 +1,8 @@
 #!/usr/bin/env python3
-"""Times `pack` beside `plan` over the same files: rings that turn round, trees and new link weights in a plane graph, a ring whose
-traffic may mostly be dropped, and thousands of changes at one switch. Prints rounds, seconds and memory of both, and for `pack` between which
-numbers its tries of a change are: the program doesn't tell how many there were, and the plan bounds them. Tests nothing."""
+"""Times `pack` beside `plan` over the same files: rings that turn round, trees and new link weights in a plane graph, a
+ring whose traffic may mostly be dropped, and thousands of changes at one switch. Prints rounds, seconds and memory of
+both, and for `pack` between which numbers its tries of a change are: the program doesn't tell how many there were, and
+the plan bounds them. Tests nothing."""
 from __future__ import annotations
 
 import heapq
@@ -102,14 +103,22 @@ class Grid:
                 for other in range(self.size):
                     if (other, one) in self.port and other not in found:
                         heapq.heappush(queue, (length + weights[other, one], other, one))
-            rules += [{"switch": f"g{one}", "priority": 100, "dst": prefix(j), "out": out} for one, out in sorted(found.items())]
+            rules += [
+                {"switch": f"g{one}", "priority": 100, "dst": prefix(j), "out": out}
+                for one, out in sorted(found.items())
+            ]
         return {"rules": rules}
 
 
 def new_weights(rows: int, columns: int, destinations: int) -> Any:
     grid, draw = Grid(rows, columns), random.Random(1)
     homes = draw.sample(range(grid.size), destinations)
-    demands = [{"from": f"g{i}:1", "dst": prefix(j), "deliver": True} for j, home in enumerate(homes) for i in range(grid.size) if i != home]
+    demands = [
+        {"from": f"g{i}:1", "dst": prefix(j), "deliver": True}
+        for j, home in enumerate(homes)
+        for i in range(grid.size)
+        if i != home
+    ]
     policy = {"demands": demands}
     return grid.topology(), grid.config(homes, draw), grid.config(homes, draw), policy
 

@@ -1,6 +1,7 @@
 #!/usr/bin/env python3
-"""Times `plan`: an ordered plan in a ring of 128 switches with 768 classes, and a two-phase plan of two configurations of
-about 2000 rules between which no single change is safe. Prints time and memory, and what `check` says; tests nothing."""
+"""Times `plan`: an ordered plan in a ring of 128 switches with 768 classes, and a two-phase plan of two configurations
+of about 2000 rules between which no single change is safe. Prints time and memory, and what `check` says; tests
+nothing."""
 from __future__ import annotations
 
 import json

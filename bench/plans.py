@@ -24,21 +24,35 @@ def write(path: pathlib.Path, front: str, items: Any, back: str) -> None:
 
 
 def change(i: int) -> Any:
-    return json.dumps({"do": "insert", "switch": f"r{i % 128}", "priority": 1 + i % 16383, "dst": f"10.{i >> 8 & 255}.{i & 255}.0/24",
-                       "out": 1 + i % 1000, "in_port": 1 + (i >> 16)}, separators=(",", ":"))
+    return json.dumps(
+        {
+            "do": "insert", "switch": f"r{i % 128}", "priority": 1 + i % 16383,
+            "dst": f"10.{i >> 8 & 255}.{i & 255}.0/24", "out": 1 + i % 1000, "in_port": 1 + (i >> 16),
+        },
+        separators=(",", ":"),
+    )
 
 
 def great_changes(folder: pathlib.Path) -> None:
-    """Writes a topology of 128 switches, and a plan of it with one round of 2,200,000 changes, to topology.json and plan.json."""
+    """Writes a topology of 128 switches, and a plan of it with one round of 2,200,000 changes, to topology.json and
+    plan.json."""
     switches = [{"name": f"r{i}", "capacity": 8192} for i in range(128)]
-    (folder / "topology.json").write_text(json.dumps({"switches": switches, "links": [], "hosts": [], "vlans": [], "tags": []}))
-    write(folder / "plan.json", '{"format":1,"kind":"two-phase","labels":[],"picks":[],"tried":[],"rounds":[[', (change(i) for i in range(2_200_000)), "]]}")
+    (folder / "topology.json").write_text(
+        json.dumps({"switches": switches, "links": [], "hosts": [], "vlans": [], "tags": []})
+    )
+    write(
+        folder / "plan.json", '{"format":1,"kind":"two-phase","labels":[],"picks":[],"tried":[],"rounds":[[',
+        (change(i) for i in range(2_200_000)), "]]}",
+    )
     measure.sizes(folder, "plan.json")
 
 
 def great_picks(folder: pathlib.Path) -> None:
     """Writes an ordered plan of 4200 empty rounds with 3,000,000 picks to plan.json."""
-    front = f'{{"format":1,"kind":"ordered","numberings":[{json.dumps([0] * 128)}],"befores":[[0],[1]],"rounds":[{",".join(["[]"] * 4200)}],"picks":['
+    front = (
+        f'{{"format":1,"kind":"ordered","numberings":[{json.dumps([0] * 128)}],"befores":[[0],[1]],'
+        f'"rounds":[{",".join(["[]"] * 4200)}],"picks":['
+    )
     write(folder / "plan.json", front, (f"[{1 + i // 1000},{i % 1000},0,[{i % 2}]]" for i in range(3_000_000)), "]}")
     measure.sizes(folder, "plan.json")
 

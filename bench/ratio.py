@@ -71,13 +71,19 @@ def is_told(taken: Sequence[float], times: int) -> bool:
 
 
 def next_turn(turn: int, taken: Sequence[Sequence[float] | None], times: int) -> list[int]:
-    """Which programs run in a turn, in their order: those that haven't run often enough. They are first by turns. For one that took too long None stands."""
+    """Which programs run in a turn, in their order: those that haven't run often enough. They are first by turns. For
+    one that took too long None stands."""
     order = (0, 1) if turn % 2 == 0 else (1, 0)
-    return [which for which in order for seconds in [taken[which]] if seconds is not None and not is_told(seconds, times)]
+    return [
+        which for which in order for seconds in [taken[which]] if seconds is not None and not is_told(seconds, times)
+    ]
 
 
-def compare(programs: Sequence[str], workload: Workload, folder: str, limit: float, times: int) -> tuple[list[float | None], bool]:
-    """Runs both programs in turns. Returns the median of the seconds of each, None for one that took too long, and whether they answered the same."""
+def compare(
+    programs: Sequence[str], workload: Workload, folder: str, limit: float, times: int
+) -> tuple[list[float | None], bool]:
+    """Runs both programs in turns. Returns the median of the seconds of each, None for one that took too long, and
+    whether they answered the same."""
     taken: list[Any] = [[], []]      # of each program the seconds, or None where it took too long
     answers: list[Any] = [None, None]
     turn = 0

@@ -1,6 +1,6 @@
 #!/usr/bin/env python3
-"""Times `replay`: a schedule of a million lines over a ring of 128 switches with a plan of 508 rounds. Packets go round the
-ring one after the other, and then the rounds are made. Prints time and memory; tests nothing."""
+"""Times `replay`: a schedule of a million lines over a ring of 128 switches with a plan of 508 rounds. Packets go round
+the ring one after the other, and then the rounds are made. Prints time and memory; tests nothing."""
 from __future__ import annotations
 
 import json
@@ -18,7 +18,8 @@ WORDS = ["replay", "topology.json", "old.json", "plan.json", "schedule"]
 
 
 def schedule(ring: Ring, rounds: int, most: int) -> Any:
-    """At most so many lines: packets from each switch in turn to destination 0, and then each round with its one change."""
+    """At most so many lines: packets from each switch in turn to destination 0, and then each round with its one
+    change."""
     lines: list[str] = []
     packet, switch = 0, 1
     while True:

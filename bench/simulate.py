@@ -1,6 +1,6 @@
 #!/usr/bin/env python3
-"""Times `simulate`: a run of an ordered plan of 508 rounds in a ring of 128 switches, with a thousand packets. Prints time and
-memory; tests nothing."""
+"""Times `simulate`: a run of an ordered plan of 508 rounds in a ring of 128 switches, with a thousand packets. Prints
+time and memory; tests nothing."""
 from __future__ import annotations
 
 import json

@@ -8,8 +8,9 @@ if TYPE_CHECKING:
 
 
 def bounds(rounds: Sequence[Sequence[str]]) -> tuple[int, int]:
-    """The least and the greatest number of tries by which packing comes to these rounds. The first round tries each change, and each
-    later one those that it takes, and at most those that remain: which of them it passes over no plan tells."""
+    """The least and the greatest number of tries by which packing comes to these rounds. The first round tries each
+    change, and each later one those that it takes, and at most those that remain: which of them it passes over no plan
+    tells."""
     changes = left = sum(len(round_) for round_ in rounds)
     greatest = 0
     for round_ in rounds:

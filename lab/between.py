@@ -1,5 +1,5 @@
-"""Connections that fail: between a controller and the switches. For each switch it listens, and hands on what comes from either side, as long as it is
-told nothing else. It is a part of faults.py."""
+"""Connections that fail: between a controller and the switches. For each switch it listens, and hands on what comes
+from either side, as long as it is told nothing else. It is a part of faults.py."""
 import collections
 import selectors
 import socket
@@ -8,14 +8,16 @@ import time
 
 
 class Between(threading.Thread):
-    """What it does is said by its fields, at any time: `delay` has the seconds by which what a switch sends comes late, by name, and `silent` the
-    switches of which nothing comes any more. `cut` ends the connections of a switch, in the middle of a message where one is under way."""
+    """What it does is said by its fields, at any time: `delay` has the seconds by which what a switch sends comes late,
+    by name, and `silent` the switches of which nothing comes any more. `cut` ends the connections of a switch, in the
+    middle of a message where one is under way."""
 
     def __init__(self, addresses):
         super().__init__(daemon=True)
         self.delay, self.silent, self.to_cut = {}, set(), []
         self.selector, self.waiting = selectors.DefaultSelector(), collections.deque()
-        self.addresses, self.pairs = {}, {}          # where it listens for each switch; of each socket its other side, its switch, whether it is the switch's
+        # where it listens for each switch; of each socket its other side, its switch, whether it is the switch's
+        self.addresses, self.pairs = {}, {}
         self.is_going = True
         for name, address in addresses.items():
             server = socket.create_server(("127.0.0.1", 0))

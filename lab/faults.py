@@ -73,26 +73,40 @@ class Lab:
         self.between.start()
         stack.callback(self.between.stop)
         self.listed = self.dir / "through"           # the file of switches, behind the connections that fail
-        self.listed.write_text("".join("%s %s %s:%d\n" % (name, datapath, *self.between.addresses[name]) for name, datapath, _ in lines))
+        self.listed.write_text(
+            "".join("%s %s %s:%d\n" % (name, datapath, *self.between.addresses[name]) for name, datapath, _ in lines)
+        )
         self.record = self.dir / "update"
         self.said = []
         self.sent = self.dir / "sent"
-        self.pour = subprocess.Popen([sys.executable, "-B", HERE / "traffic.py", "pour", self.dir, *self.files[:4], self.sent])
+        self.pour = subprocess.Popen(
+            [sys.executable, "-B", HERE / "traffic.py", "pour", self.dir, *self.files[:4], self.sent]
+        )
         stack.callback(self.end_traffic)
         self.fault_at = None         # the switch at which the fault is
         self.led_to = "new"          # to which tables the last run was to lead
         time.sleep(0.5)
 
     def ofctl(self, *words):
-        subprocess.run(["ovs-ofctl", "-O", "OpenFlow10", words[0], f"unix:{self.dir}/{words[1]}.mgmt", *words[2:]], check=True, timeout=60, capture_output=True)
+        subprocess.run(
+            ["ovs-ofctl", "-O", "OpenFlow10", words[0], f"unix:{self.dir}/{words[1]}.mgmt", *words[2:]], check=True,
+            timeout=60, capture_output=True,
+        )
 
     def vsctl(self, *words):
-        subprocess.run(["ovs-vsctl", f"--db=unix:{self.dir}/db.sock", *words], check=True, timeout=60, capture_output=True)
+        subprocess.run(
+            ["ovs-vsctl", f"--db=unix:{self.dir}/db.sock", *words], check=True, timeout=60, capture_output=True
+        )
 
     def begin(self, *more, record=None, listed=None, before=(), wait=None):
-        words = [*before, sys.executable, "-B", FRONT_END, "apply", *self.files, record or self.record, "--switches", listed or self.listed,
-                 "--wait", wait or self.wait, *more]
-        return subprocess.Popen([str(one) for one in words], stderr=subprocess.PIPE, text=True, env={**os.environ, "PLANNER": program.path()})
+        words = [
+            *before, sys.executable, "-B", FRONT_END, "apply", *self.files, record or self.record, "--switches",
+            listed or self.listed, "--wait", wait or self.wait, *more,
+        ]
+        return subprocess.Popen(
+            [str(one) for one in words], stderr=subprocess.PIPE, text=True,
+            env={**os.environ, "PLANNER": program.path()},
+        )
 
     def end_of(self, run):
         """Its exit status and what it said."""
@@ -119,7 +133,11 @@ class Lab:
         if shell:
             subprocess.run(["sh", "-c", shell[1]], check=True)
             self.record = pathlib.Path(shlex.split(shell[1])[-1])
-        more = ["--resume"] + (["--repair"] if "--repair" in then else []) + (["--take-over"] if "--take-over" in then else [])
+        more = (
+            ["--resume"]
+            + (["--repair"] if "--repair" in then else [])
+            + (["--take-over"] if "--take-over" in then else [])
+        )
         return f"{'`head`, ' if shell else ''}{' '.join(more)}", *self.end_of(self.begin(*more))
 
     def turn_back(self):
@@ -128,7 +146,8 @@ class Lab:
         return "--back", *self.end_of(self.begin("--back"))
 
     def begin_slowly(self):
-        """A run in whose middle round a switch has been given its messages and isn't heard yet; and that switch. A round without changes is passed over."""
+        """A run in whose middle round a switch has been given its messages and isn't heard yet; and that switch. A
+        round without changes is passed over."""
         plan = json.loads(pathlib.Path(self.files[4]).read_text())
         at = next(at for at in range(self.rounds // 2, self.rounds) if plan["rounds"][at])
         name = plan["rules"][plan["rounds"][at][0][1]]["switch"]
@@ -275,12 +294,16 @@ def turned_at_the_end(lab):
 
 
 def fill(lab):
-    """Lets one switch that inserts take one entry alone beyond its old table, and the mark; and carries the plan out. Which switch it is, and the end of that."""
+    """Lets one switch that inserts take one entry alone beyond its old table, and the mark; and carries the plan out.
+    Which switch it is, and the end of that."""
     plan = json.loads(pathlib.Path(lab.files[4]).read_text())
     inserts = [plan["rules"][at]["switch"] for one in plan["rounds"] for do, at in one if do == "insert"]
     name = inserts[-1] if inserts else lab.names[0]
     old = sum(rule["switch"] == name for rule in json.loads((lab.folder / "old.json").read_text())["rules"])
-    lab.vsctl("--", "--id=@table", "create", "flow_table", f"flow_limit={old + 1}", "overflow_policy=refuse", "--", "set", "bridge", name, "flow_tables:0=@table")
+    lab.vsctl(
+        "--", "--id=@table", "create", "flow_table", f"flow_limit={old + 1}", "overflow_policy=refuse", "--", "set",
+        "bridge", name, "flow_tables:0=@table",
+    )
     return name, *lab.end_of(lab.begin())
 
 
@@ -304,15 +327,20 @@ def full_disk(lab):
     return told, *lab.go_on(told)
 
 
-FAULTS = {"two controllers": two_controllers, "emptied switch": emptied_switch, "change by hand": change_by_hand, "kills": kills, "cuts": cuts, "late": late,
-          "silent": silent, "cut in mid-round": cut_in_mid_round, "full table": full_table, "turned from full": turned_from_full, "full disk": full_disk,
-          "turned back": turned_back, "turned at the end": turned_at_the_end}
+FAULTS = {
+    "two controllers": two_controllers, "emptied switch": emptied_switch, "change by hand": change_by_hand,
+    "kills": kills, "cuts": cuts, "late": late, "silent": silent, "cut in mid-round": cut_in_mid_round,
+    "full table": full_table, "turned from full": turned_from_full, "full disk": full_disk, "turned back": turned_back,
+    "turned at the end": turned_at_the_end,
+}
 
 
 def telling(said):
     """The line that tells of the fault."""
     lines = said.strip().splitlines() or ["nothing"]
-    shown = [line for line in lines if line.startswith("stopped: ")] or [line for line in lines if re.search("missing|too much|closed its|no answer", line)]
+    shown = [line for line in lines if line.startswith("stopped: ")] or [
+        line for line in lines if re.search("missing|too much|closed its|no answer", line)
+    ]
     return (shown or lines[-1:])[0].replace("|", "/")
 
 
@@ -325,9 +353,19 @@ def main(words):
     parser.add_argument("--by", metavar="COMMAND")
     parser.add_argument("--plan", metavar="FILE", type=pathlib.Path)
     asked = parser.parse_args(words)
-    make = made_by([asked.by] if asked.by else ["pack", "plan"]) if asked.plan is None else lambda _: asked.plan.read_text()
+    make = (
+        made_by([asked.by] if asked.by else ["pack", "plan"])
+        if asked.plan is None
+        else lambda _: asked.plan.read_text()
+    )
     is_good = True
-    print("| Fault | What is told | Next step | Packets sent | Broken by the fault | Broken beside it |\n|---|---|---|---|---|---|", flush=True)
+    print(
+        (
+            "| Fault | What is told | Next step | Packets sent | Broken by the fault | Broken beside it"
+            " |\n|---|---|---|---|---|---|"
+        ),
+        flush=True,
+    )
     for name, fault in FAULTS.items():
         if asked.only and name not in asked.only:
             continue
@@ -336,7 +374,14 @@ def main(words):
             told, done, status, end = fault(lab)
             lab.end_traffic()
             sent, by_fault, beside = lab.judge()
-        print(f"| {name} | {telling(told)} | {done}: {f'led to the {lab.led_to} tables' if status == 0 else 'FAILED'} | {sent} | {by_fault} | {len(beside)} |", flush=True)
+        print(
+            (
+                f"| {name} | {telling(told)} | {done}:"
+                f" {f'led to the {lab.led_to} tables' if status == 0 else 'FAILED'} | {sent} | {by_fault} |"
+                f" {len(beside)} |"
+            ),
+            flush=True,
+        )
         if beside or status:
             is_good = False
             print("\n".join([*beside[:5], *lab.said]), file=sys.stderr)

@@ -1,6 +1,6 @@
 #!/usr/bin/env python3
-"""Links that take time: slow_links.py DIR TOPOLOGY MILLISECONDS. For each link it waits at the socket DIR/NAME.slow, connects to DIR/NAME.link, and hands
-on what comes from either side after the delay. Until it is ended."""
+"""Links that take time: slow_links.py DIR TOPOLOGY MILLISECONDS. For each link it waits at the socket DIR/NAME.slow,
+connects to DIR/NAME.link, and hands on what comes from either side after the delay. Until it is ended."""
 import collections
 import json
 import select

@@ -1,16 +1,20 @@
 #!/usr/bin/env python3
 """Packets through the bridges of bridges.sh, and what became of each.
 
-  traffic.py bridges DIR TOPOLOGY [slow]                       the words for ovs-vsctl that make the bridges, a line each; the file DIR/switches
+  traffic.py bridges DIR TOPOLOGY [slow]                       the words for ovs-vsctl that make the bridges, a line
+                                                               each; the file DIR/switches
   traffic.py load    DIR TOPOLOGY CONFIG                       gives each bridge a configuration's table
-  traffic.py pour    DIR TOPOLOGY OLD NEW POLICY SENT          packets at every host port to every prefix of the policy, one each PAUSE seconds (0.002),
-                                                               until SIGTERM; they are noted in the file SENT
-  traffic.py judge   DIR TOPOLOGY OLD NEW POLICY SENT SUMS     says what became of each packet, by the records of the ports, and adds the numbers of
-                                                               packets that were sent and that were broken to the file SUMS
-  traffic.py at_once DIR TOPOLOGY OLD NEW POLICY SEED SECONDS  all changes, each at a random moment within so many seconds, as a controller does that
-                                                               doesn't plan
+  traffic.py pour    DIR TOPOLOGY OLD NEW POLICY SENT          packets at every host port to every prefix of the policy,
+                                                               one each PAUSE seconds (0.002), until SIGTERM; they are
+                                                               noted in the file SENT
+  traffic.py judge   DIR TOPOLOGY OLD NEW POLICY SENT SUMS     says what became of each packet, by the records of the
+                                                               ports, and adds the numbers of packets that were sent and
+                                                               that were broken to the file SUMS
+  traffic.py at_once DIR TOPOLOGY OLD NEW POLICY SEED SECONDS  all changes, each at a random moment within so many
+                                                               seconds, as a controller does that doesn't plan
 
-A packet is broken where it came to a switch twice, left without having met its waypoints, was lost though it must arrive, or left with another VLAN.
+A packet is broken where it came to a switch twice, left without having met its waypoints, was lost though it must
+arrive, or left with another VLAN.
 """
 import collections
 import json
@@ -24,7 +28,10 @@ import subprocess
 import sys
 import time
 
-sys.path[:0] = [str(pathlib.Path(__file__).resolve().parents[1]), str(pathlib.Path(__file__).resolve().parents[1] / "planner_tools" / "switches" / "tests")]
+sys.path[:0] = [
+    str(pathlib.Path(__file__).resolve().parents[1]),
+    str(pathlib.Path(__file__).resolve().parents[1] / "planner_tools" / "switches" / "tests"),
+]
 import fake_switch
 from planner_tools.switches import openflow
 
@@ -43,7 +50,11 @@ def is_in(address, prefix):
 
 def fits(rule, port, vlan, address):
     """Whether a rule or a demand is for a packet."""
-    return rule.get("in_port", "any") in ("any", port) and str(rule.get("vlan", "any")) in ("any", vlan) and is_in(address, rule["dst"])
+    return (
+        rule.get("in_port", "any") in ("any", port)
+        and str(rule.get("vlan", "any")) in ("any", vlan)
+        and is_in(address, rule["dst"])
+    )
 
 
 # ---- the bridges
@@ -55,12 +66,16 @@ def bridges(folder, topology, slow=""):
               f"options:tx_pcap={folder}/{switch}_{port}.tx options:rxq_pcap={folder}/{switch}_{port}.rx {more}")
 
     for number in range(len(topology["switches"])):
-        socket.create_server(("127.0.0.1", FIRST_PORT + number)).close()      # fails where something listens there already
+        # fails where something listens there already
+        socket.create_server(("127.0.0.1", FIRST_PORT + number)).close()
     with open(f"{folder}/switches", "w", encoding="ascii") as listed:
         for number, switch in enumerate(topology["switches"]):
             name = switch["name"]
-            print(f"-- add-br {name} -- set bridge {name} datapath_type=dummy protocols=OpenFlow10 fail_mode=secure other_config:datapath-id={number + 1:016x} "
-                  f"other_config:disable-in-band=true -- set-controller {name} ptcp:{FIRST_PORT + number}:127.0.0.1 -- set controller {name} inactivity_probe=0")
+            print(
+                f"-- add-br {name} -- set bridge {name} datapath_type=dummy protocols=OpenFlow10 fail_mode=secure"
+                f" other_config:datapath-id={number + 1:016x} other_config:disable-in-band=true -- set-controller"
+                f" {name} ptcp:{FIRST_PORT + number}:127.0.0.1 -- set controller {name} inactivity_probe=0"
+            )
             print(f"{name} {number + 1:016x} 127.0.0.1:{FIRST_PORT + number}", file=listed)
     for host in topology["hosts"]:
         add_port(host)
@@ -89,18 +104,28 @@ def load(folder, topology, config):
 def flow_message(rule, is_kept):
     """The message (OpenFlow 1.0.0, section 5.3.3) that adds or replaces a rule, or deletes it."""
     command = 0 if is_kept else 4
-    body = fake_switch.match_of(rule) + struct.pack("!8xHHHHIHH", command, 0, 0, rule["priority"], 0xFFFFFFFF, 0xFFFF, 0)
+    body = fake_switch.match_of(rule) + struct.pack(
+        "!8xHHHHIHH", command, 0, 0, rule["priority"], 0xFFFFFFFF, 0xFFFF, 0
+    )
     return openflow.message(openflow.FLOW_MOD, 1, body + (fake_switch.actions_of(rule) if is_kept else b""))
 
 
 def at_once(folder, topology, old, new, policy, seed, seconds):
     def keyed(config):
-        return {(rule["switch"], rule["priority"], rule.get("in_port", "any"), str(rule.get("vlan", "any")), rule["dst"]): rule for rule in config["rules"]}
+        return {
+            (
+                rule["switch"], rule["priority"], rule.get("in_port", "any"), str(rule.get("vlan", "any")), rule["dst"],
+            ): rule
+            for rule in config["rules"]
+        }
 
     before, after, chance = keyed(old), keyed(new), random.Random(seed)
     differing = [key for key in sorted({*before, *after}, key=str) if before.get(key) != after.get(key)]
     moments = sorted((chance.random() * float(seconds), key) for key in differing)
-    socks = {one["name"]: socket.create_connection(("127.0.0.1", FIRST_PORT + number), timeout=60) for number, one in enumerate(topology["switches"])}
+    socks = {
+        one["name"]: socket.create_connection(("127.0.0.1", FIRST_PORT + number), timeout=60)
+        for number, one in enumerate(topology["switches"])
+    }
     for sock in socks.values():
         sock.sendall(openflow.HELLO_BYTES)
         sock.recv(8)
@@ -136,8 +161,14 @@ class Control:
 def frame(number, vlan, address):
     """A UDP packet to the address, with its number as content."""
     tag = b"" if vlan == "untagged" else struct.pack("!HH", 0x8100, int(vlan))
-    ip = struct.pack("!BBHHHBBH", 0x45, 0, 32, number & 0xFFFF, 0, 64, 17, 0) + bytes([192, 0, 2, 1]) + struct.pack("!I", address)
-    return (bytes.fromhex("020000000002020000000001") + tag + b"\x08\x00" + ip + struct.pack("!HHHHI", 9, 9, 12, 0, number)).ljust(60, b"\0")
+    ip = (
+        struct.pack("!BBHHHBBH", 0x45, 0, 32, number & 0xFFFF, 0, 64, 17, 0)
+        + bytes([192, 0, 2, 1])
+        + struct.pack("!I", address)
+    )
+    return (
+        bytes.fromhex("020000000002020000000001") + tag + b"\x08\x00" + ip + struct.pack("!HHHHI", 9, 9, 12, 0, number)
+    ).ljust(60, b"\0")
 
 
 def pour(folder, topology, old, new, policy, sent):
@@ -148,7 +179,9 @@ def pour(folder, topology, old, new, policy, sent):
     with open(sent, "w", encoding="ascii") as out:
         while going:
             number += 1
-            entry, vlan, address = chance.choice(topology["hosts"]), str(chance.choice(topology["vlans"])), chance.choice(addresses)
+            entry, vlan, address = (
+                chance.choice(topology["hosts"]), str(chance.choice(topology["vlans"])), chance.choice(addresses),
+            )
             print(json.dumps([number, entry, vlan, address]), file=out)
             control.call("netdev-dummy/receive", entry.replace(":", "_"), frame(number, vlan, address).hex())
             time.sleep(PAUSE)
@@ -163,7 +196,9 @@ def recorded(path):
         is_tagged = packet[12:14] == b"\x81\x00"
         ip = packet[18:] if is_tagged else packet[14:]
         if len(ip) >= 32 and ip[9] == 17:
-            yield seconds * 1000000 + micros, int.from_bytes(ip[28:32], "big"), str(int.from_bytes(packet[14:16], "big") & 4095) if is_tagged else "untagged"
+            yield seconds * 1000000 + micros, int.from_bytes(ip[28:32], "big"), str(
+                int.from_bytes(packet[14:16], "big") & 4095
+            ) if is_tagged else "untagged"
 
 
 def ways(folder, topology):
@@ -203,7 +238,11 @@ def is_met(chain, switches):
 def faults(policy, entry, vlan, address, stops, end):
     """What is broken of a packet with these stops that left at `end`, a port and a VLAN, or None."""
     switches = [stop.split(":")[0] for stop in stops]
-    demands = [one for one in policy["demands"] if one.get("from", "any") in ("any", entry) and fits({**one, "in_port": "any"}, None, vlan, address)]
+    demands = [
+        one
+        for one in policy["demands"]
+        if one.get("from", "any") in ("any", entry) and fits({**one, "in_port": "any"}, None, vlan, address)
+    ]
     has_looped = len(set(switches)) < len(switches)
     if has_looped:
         yield "looped"
@@ -225,11 +264,18 @@ def judge(folder, topology, old, new, policy, sent, sums):
         broken += bool(what)
         if not what:
             if (entry, vlan, address) not in paths:
-                paths[entry, vlan, address] = [path_under(topology, config, entry, vlan, address) for config in (old, new)]
-            taken = [name for name, path in zip(("old", "new"), paths[entry, vlan, address]) if path == (way, end and end[0])]
+                paths[entry, vlan, address] = [
+                    path_under(topology, config, entry, vlan, address) for config in (old, new)
+                ]
+            taken = [
+                name for name, path in zip(("old", "new"), paths[entry, vlan, address]) if path == (way, end and end[0])
+            ]
             what = [f"took the {' and the '.join(taken)} path" if taken else "took parts of both paths"]
         counts[", ".join(what)] += 1
-        examples.setdefault(", ".join(what), f"{' '.join(way[:12])}{' ..' if len(way) > 12 else ''} {'left ' + end[0] if end else 'did not leave'}")
+        examples.setdefault(
+            ", ".join(what),
+            f"{' '.join(way[:12])}{' ..' if len(way) > 12 else ''} {'left ' + end[0] if end else 'did not leave'}",
+        )
     print(f"{len(packets)} packets sent, {broken} broken")
     for what, count in counts.most_common():
         print(f"  {count} {what}" + ("" if what.startswith("took the") else f", as: {examples[what]}"))
@@ -240,7 +286,10 @@ def judge(folder, topology, old, new, policy, sent, sums):
 def main(words):
     command = {"bridges": bridges, "load": load, "pour": pour, "judge": judge, "at_once": at_once}[words[0]]
     count = {"bridges": 1, "load": 2}.get(words[0], 4)       # how many of the words behind DIR are files to read
-    command(words[1], *[json.loads(pathlib.Path(word).read_text(encoding="utf-8")) for word in words[2:2 + count]], *words[2 + count:])
+    command(
+        words[1], *[json.loads(pathlib.Path(word).read_text(encoding="utf-8")) for word in words[2 : 2 + count]],
+        *words[2 + count :],
+    )
 
 
 if __name__ == "__main__":

@@ -1,6 +1,6 @@
-"""Warnings about files that the program takes: members that it passes over, and demands and rules that say less than they seem to. Which class of
-packets goes where, and which one a demand covers, is what `paths` of the program says; it is asked where the files by themselves leave it open whether
-there is something to warn of."""
+"""Warnings about files that the program takes: members that it passes over, and demands and rules that say less than
+they seem to. Which class of packets goes where, and which one a demand covers, is what `paths` of the program says; it
+is asked where the files by themselves leave it open whether there is something to warn of."""
 from __future__ import annotations
 
 import bisect
@@ -28,7 +28,10 @@ LONGEST_OTHER = 1 << 20
 MANY = 4096
 # The commands that speak of what packets a policy covers, and the configuration that is looked at.
 JUDGING = {"config": "CONFIG", "plan": "NEW", "check": "NEW", "pack": "NEW", "certify": "NEW"}
-KIND_OF_WORD = {"TOPO": "topology", "CONFIG": "configuration", "OLD": "configuration", "NEW": "configuration", "POLICY": "policy", "PLAN": "plan"}
+KIND_OF_WORD = {
+    "TOPO": "topology", "CONFIG": "configuration", "OLD": "configuration", "NEW": "configuration", "POLICY": "policy",
+    "PLAN": "plan",
+}
 # The members of the objects in the lists of a file.
 INNER = {"topology": {"switches": "switch"}, "configuration": {"rules": "rule"}, "policy": {"demands": "demand"},
          "plan": {"rules": "plan rule", "rounds": "change", "tried": "change"}}
@@ -41,10 +44,12 @@ REMARK, REMARK_BEGINS = "comment", "_"
 
 
 class Caution:
-    """What is told before an answer. A note is no warning: nothing has to be changed. Of several of one kind the first one is told, with the places of the
-    others; one without a kind stands alone."""
+    """What is told before an answer. A note is no warning: nothing has to be changed. Of several of one kind the first
+    one is told, with the places of the others; one without a kind stands alone."""
 
-    def __init__(self, what: str, more: Sequence[str] = (), is_warning: bool = True, kind: Any = None, place: str = "") -> None:
+    def __init__(
+        self, what: str, more: Sequence[str] = (), is_warning: bool = True, kind: Any = None, place: str = ""
+    ) -> None:
         self.what, self.more, self.is_warning, self.kind, self.place = what, list(more), is_warning, kind, place
 
 
@@ -68,7 +73,9 @@ def cautions(run: Run | Asking) -> list[Caution]:
         if word in KIND_OF_WORD and size_of(file) <= LONGEST.get(word, LONGEST_OTHER):
             found += member_cautions(KIND_OF_WORD[word], file)
     config = JUDGING.get(run.command.name)
-    if config and all(size_of(run.files[word]) <= LONGEST_OTHER for word in ("TOPO", config, "POLICY") if word in run.files):
+    if config and all(
+        size_of(run.files[word]) <= LONGEST_OTHER for word in ("TOPO", config, "POLICY") if word in run.files
+    ):
         found += coverage_cautions(run, config)
     return grouped(found)
 
@@ -98,7 +105,12 @@ def member_cautions(kind: str, file: Given) -> list[Caution]:
     if OF_OTHERS[kind] not in here:
         return []            # the program refuses it for that
     if other:
-        return [Caution(f"{file.shown}: it has `{OF_OTHERS[other]}`, as a {other} has, and is read as a {kind}: are the words in the right order?")]
+        return [
+            Caution(
+                f"{file.shown}: it has `{OF_OTHERS[other]}`, as a {other} has, and is read as a {kind}: are the words"
+                " in the right order?"
+            )
+        ]
     look_at_members(text, text.root, (), MEMBERS[kind], found)
     for list_name, inner in INNER[kind].items():
         for way, item in objects_in(text.root.member(list_name), (list_name,)):
@@ -107,7 +119,8 @@ def member_cautions(kind: str, file: Given) -> list[Caution]:
 
 
 def has_odd_member(kind: str, text: str) -> bool:
-    """Whether an object of a file has a member that its format doesn't know, or one that stands twice. ValueError where the text is no JSON."""
+    """Whether an object of a file has a member that its format doesn't know, or one that stands twice. ValueError where
+    the text is no JSON."""
     objects: list[dict[str, Any]] = []
     twice: list[dict[str, Any]] = []
 
@@ -141,7 +154,8 @@ def has_unknown(item: dict[str, Any], known: set[str]) -> bool:
 
 
 def plain_objects_in(value: Sequence[Any] | None, most: int) -> Iterator[dict[str, Any]]:
-    """The objects in a list, or in lists in it, as `objects_in`; there are so many at most, and it ends behind the last one."""
+    """The objects in a list, or in lists in it, as `objects_in`; there are so many at most, and it ends behind the last
+    one."""
     waiting = [iter(value)] if isinstance(value, list) else []
     while waiting and most > 0:
         for item in waiting[-1]:
@@ -170,20 +184,34 @@ def is_remark(name: str) -> bool:
     return name == REMARK or name.startswith(REMARK_BEGINS)
 
 
-def look_at_members(text: Json, item: Value, way: Sequence[int | str], known: Sequence[str], found: list[Caution]) -> None:
+def look_at_members(
+    text: Json, item: Value, way: Sequence[int | str], known: Sequence[str], found: list[Caution]
+) -> None:
     seen: dict[str, int] = {}
     for name, at, value in item.held if item.kind == "object" else []:
         if is_remark(name):
             continue
         path, kind = member_path((*way, name)), (text.path, way[:1], name)
         if name in seen:
-            found.append(Caution(f"{text.where(at)}: {path} stands twice, and only the last one, {text.shown(value)}, counts",
-                                 [f"the first one: line {text.place(seen[name])[0]}, column {text.place(seen[name])[1]}"], kind=("twice", *kind), place=path))
+            found.append(
+                Caution(
+                    f"{text.where(at)}: {path} stands twice, and only the last one, {text.shown(value)}, counts",
+                    [f"the first one: line {text.place(seen[name])[0]}, column {text.place(seen[name])[1]}"],
+                    kind=("twice", *kind), place=path,
+                )
+            )
         elif name not in known:
             here = [one for one, _, _ in item.held]
             guess = nearest(name, [one for one in known if one not in here]) or nearest(name, known)
-            found.append(Caution(f"{text.where(at)}: {path} counts for nothing: no member has this name{f'; did you mean `{guess}`?' if guess else ''}",
-                                 [f"the members are {', '.join(f'`{one}`' for one in known)}"], kind=("unknown", *kind), place=path))
+            found.append(
+                Caution(
+                    (
+                        f"{text.where(at)}: {path} counts for nothing: no member has this"
+                        f" name{f'; did you mean `{guess}`?' if guess else ''}"
+                    ),
+                    [f"the members are {', '.join(f'`{one}`' for one in known)}"], kind=("unknown", *kind), place=path,
+                )
+            )
         seen.setdefault(name, at)
 
 
@@ -217,7 +245,8 @@ class PathLine:
 
 
 class Files:
-    """The files of a run about which is warned: as JSON, and where something is said of a member with the places of all of them; each is read once."""
+    """The files of a run about which is warned: as JSON, and where something is said of a member with the places of all
+    of them; each is read once."""
 
     def __init__(self, run: Any, config: str) -> None:
         self.files = {"topology": run.files["TOPO"], "config": run.files[config], "policy": run.files.get("POLICY")}
@@ -252,7 +281,10 @@ def coverage_cautions(run: Any, config: str) -> list[Caution]:
         if free is not None:
             return [free_note(run, config, free, count)] if free else []
         if count >= MANY:
-            run.voice.note(f"the paths of all {count} classes of packets are looked at first, for the warnings; --quiet leaves both out")
+            run.voice.note(
+                f"the paths of all {count} classes of packets are looked at first, for the warnings; --quiet leaves"
+                " both out"
+            )
         return path_cautions(run, config, files)
     except (OSError, ValueError, NotJson, RecursionError):
         return []
@@ -262,7 +294,11 @@ def path_cautions(run: Any, config: str, files: Files) -> list[Caution]:
     """Warnings by what `paths` says."""
     status, text = run.ask("paths", *(run.files[word].real for word in ("TOPO", config, "POLICY") if word in run.files))
     if status not in (0, 1):
-        return undeclared_cautions(files.placed("policy"), nets.Network(files.placed("topology"))) if status == 2 and "POLICY" in run.files else []
+        return (
+            undeclared_cautions(files.placed("policy"), nets.Network(files.placed("topology")))
+            if status == 2 and "POLICY" in run.files
+            else []
+        )
     *paths, last = text.splitlines()
     lines = [PathLine(line) for line in paths]
     if not last.startswith(f"{len(lines)} classes: "):
@@ -275,11 +311,19 @@ def path_cautions(run: Any, config: str, files: Files) -> list[Caution]:
 def demands_of(policy: Json) -> list[tuple[int, dict[str, Any], str]]:
     """The demands of a policy, as (number, its value, where it stands)."""
     value = policy.root.member("demands")
-    return [(number, nets.plain(one), policy.where(one.start)) for number, one in enumerate(value.items() if value is not None else []) if one.kind == "object"]
+    return [
+        (number, nets.plain(one), policy.where(one.start))
+        for number, one in enumerate(value.items() if value is not None else [])
+        if one.kind == "object"
+    ]
 
 
 def undeclared_cautions(policy: Json, network: Network) -> list[Caution]:
-    return [undeclared(number, demand, where, network) for number, demand, where in demands_of(policy) if is_undeclared(demand, network.vlans)]
+    return [
+        undeclared(number, demand, where, network)
+        for number, demand, where in demands_of(policy)
+        if is_undeclared(demand, network.vlans)
+    ]
 
 
 def is_undeclared(demand: dict[str, Any], vlans: Sequence[int | str]) -> bool:
@@ -289,14 +333,20 @@ def is_undeclared(demand: dict[str, Any], vlans: Sequence[int | str]) -> bool:
 
 def undeclared(number: int, demand: dict[str, Any], where: str, network: Network) -> Caution:
     vlan = demand["vlan"]
-    return Caution(f"{where}: demands[{number}] speaks of no packet: {'`untagged`' if vlan == 'untagged' else f'the VLAN {vlan}'} isn't declared"
-                   f"{did_you_mean(vlan, network.vlans)}", [f"the VLANs of {network.json.path} are {', '.join(map(str, network.vlans)) or 'none'}"],
-                   kind=("undeclared", vlan), place=f"demands[{number}]")
+    return Caution(
+        (
+            f"{where}: demands[{number}] speaks of no packet:"
+            f" {'`untagged`' if vlan == 'untagged' else f'the VLAN {vlan}'} isn't"
+            f" declared{did_you_mean(vlan, network.vlans)}"
+        ),
+        [f"the VLANs of {network.json.path} are {', '.join(map(str, network.vlans)) or 'none'}"],
+        kind=("undeclared", vlan), place=f"demands[{number}]",
+    )
 
 
 class Covered:
-    """What `paths` says of the classes of a demand. All entries have the classes of the same addresses, so their classes with a path that isn't dropped
-    are counted together, from each address on."""
+    """What `paths` says of the classes of a demand. All entries have the classes of the same addresses, so their
+    classes with a path that isn't dropped are counted together, from each address on."""
 
     def __init__(self, lines: Sequence[PathLine]) -> None:
         self.groups: dict[tuple[str, str], list[PathLine]] = {}
@@ -306,9 +356,12 @@ class Covered:
         self.counts: dict[tuple[str, str], tuple[int, list[int]]] = {}
 
     def counts_of(self, host: str, vlan: str) -> tuple[int, list[int]]:
-        """Of the entries of a host port and a VLAN, or of any: how many there are, and how many of their classes before each address aren't dropped."""
+        """Of the entries of a host port and a VLAN, or of any: how many there are, and how many of their classes before
+        each address aren't dropped."""
         if (host, vlan) not in self.counts:
-            groups = [group for (one, other), group in self.groups.items() if host in ("any", one) and vlan in ("any", other)]
+            groups = [
+                group for (one, other), group in self.groups.items() if host in ("any", one) and vlan in ("any", other)
+            ]
             counts = [0] * (len(self.addresses) + 1)
             for group in groups:
                 for at, line in enumerate(group):
@@ -321,7 +374,9 @@ class Covered:
     def of(self, demand: dict[str, Any]) -> tuple[int, int]:
         """How many classes a demand covers, and how many of them aren't dropped."""
         first, length = nets.span(demand["dst"])
-        low, high = bisect.bisect_left(self.addresses, first), bisect.bisect_left(self.addresses, first + (1 << 32 - length))
+        low, high = bisect.bisect_left(self.addresses, first), bisect.bisect_left(
+            self.addresses, first + (1 << 32 - length)
+        )
         groups, counts = self.counts_of(demand.get("from", "any"), str(demand.get("vlan", "any")))
         return groups * (high - low), counts[high] - counts[low]
 
@@ -341,11 +396,23 @@ def demand_cautions(files: Files, lines: Sequence[PathLine], shown: str) -> list
         if not count and is_undeclared(demand, vlans):
             found.append(undeclared(number, demand, where, nets.Network(files.placed("topology"))))
         elif not count:
-            found.append(Caution(f"{where}: demands[{number}] speaks of no packet: it covers no class of packets", ["the network has no host port or no VLAN"],
-                                 kind="no class", place=f"demands[{number}]"))
+            found.append(
+                Caution(
+                    f"{where}: demands[{number}] speaks of no packet: it covers no class of packets",
+                    ["the network has no host port or no VLAN"], kind="no class", place=f"demands[{number}]",
+                )
+            )
         else:
-            found.append(Caution(f"{where}: demands[{number}] asks for nothing: in {shown} every packet to {demand['dst']} that it speaks of is dropped",
-                                 ["a packet that is dropped meets every demand without `deliver`"], kind="all dropped", place=f"demands[{number}]"))
+            found.append(
+                Caution(
+                    (
+                        f"{where}: demands[{number}] asks for nothing: in {shown} every packet to {demand['dst']} that"
+                        " it speaks of is dropped"
+                    ),
+                    ["a packet that is dropped meets every demand without `deliver`"], kind="all dropped",
+                    place=f"demands[{number}]",
+                )
+            )
     return found
 
 
@@ -356,13 +423,27 @@ def free_cautions(run: Any, lines: Sequence[PathLine], config: str) -> list[Caut
         return []
     leaving = [one for one in free if one.end == "left"]
     if leaving:
-        return [Caution(f"{len(leaving)} of {len(lines)} classes of packets leave the network though no demand covers them: {listed(leaving)}", [listing(run, config)])]
+        return [
+            Caution(
+                (
+                    f"{len(leaving)} of {len(lines)} classes of packets leave the network though no demand covers them:"
+                    f" {listed(leaving)}"
+                ),
+                [listing(run, config)],
+            )
+        ]
     return [free_note(run, config, len(free), len(lines))]
 
 
 def free_note(run: Any, config: str, free: int, count: int) -> Caution:
     """What is said where no packet leaves that no demand covers."""
-    return Caution(f"no demand covers {free} of {count} classes of packets, and {run.files[config].shown} lets none of them leave the network", [listing(run, config)], False)
+    return Caution(
+        (
+            f"no demand covers {free} of {count} classes of packets, and {run.files[config].shown} lets none of them"
+            " leave the network"
+        ),
+        [listing(run, config)], False,
+    )
 
 
 def listing(run: Any, config: str) -> str:
@@ -378,11 +459,14 @@ def paths_words(run: Any, config: str) -> str:
 
 
 def listed(lines: Sequence[PathLine]) -> str:
-    return ", ".join(one.name() for one in lines[:TOLD]) + (f" and {len(lines) - TOLD} more" if len(lines) > TOLD else "")
+    return ", ".join(one.name() for one in lines[:TOLD]) + (
+        f" and {len(lines) - TOLD} more" if len(lines) > TOLD else ""
+    )
 
 
 def unserved_cautions(lines: Sequence[PathLine], files: Files, shown: str) -> list[Caution]:
-    """Warnings about host ports and VLANs whose packets are all dropped where they enter; of a port also that none leaves there."""
+    """Warnings about host ports and VLANs whose packets are all dropped where they enter; of a port also that none
+    leaves there."""
     found, dead, topology = [], set(), files.plain("topology")
     ends = {one.place for one in lines if one.end == "left"}
     served = {(one.host, one.vlan) for one in lines if not one.is_dropped_at_once()}
@@ -391,11 +475,26 @@ def unserved_cautions(lines: Sequence[PathLine], files: Files, shown: str) -> li
         if host in known and host not in ends and host not in served_hosts:
             dead.add(host)
             where = files.where("topology", "hosts", number)
-            found.append(Caution(f"{where}: no rule of {shown} serves the host port {host}: every packet that enters there is dropped at once, and none leaves there",
-                                 kind="unserved host", place=host))
+            found.append(
+                Caution(
+                    (
+                        f"{where}: no rule of {shown} serves the host port {host}: every packet that enters there is"
+                        " dropped at once, and none leaves there"
+                    ),
+                    kind="unserved host", place=host,
+                )
+            )
     served_vlans = {vlan for _, vlan in served}
     for number, vlan in enumerate(topology["vlans"]):
         if known - dead and str(vlan) not in served_vlans:
             where = files.where("topology", "vlans", number)
-            found.append(Caution(f"{where}: no rule of {shown} serves packets {nets.vlan_words(vlan)}: each is dropped where it enters", kind="unserved VLAN", place=str(vlan)))
+            found.append(
+                Caution(
+                    (
+                        f"{where}: no rule of {shown} serves packets {nets.vlan_words(vlan)}: each is dropped where it"
+                        " enters"
+                    ),
+                    kind="unserved VLAN", place=str(vlan),
+                )
+            )
     return found

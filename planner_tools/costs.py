@@ -1,7 +1,8 @@
-"""What a plan of `pack` costs, and what one of the other kind would: rounds, changes, switches, and the time that it takes at least. Where there is no ordered
-plan, which packets the changes that are left could harm.
+"""What a plan of `pack` costs, and what one of the other kind would: rounds, changes, switches, and the time that it
+takes at least. Where there is no ordered plan, which packets the changes that are left could harm.
 
-For this the program is run again: with the other KIND, and where there is no ordered plan by `certify`, once for each of the changes that are left.
+For this the program is run again: with the other KIND, and where there is no ordered plan by `certify`, once for each
+of the changes that are left.
 """
 from __future__ import annotations
 
@@ -35,10 +36,14 @@ def duration(seconds: float) -> str:
 
 
 def cost_words(plan: dict[str, Any], switches: int, wait: float | None) -> str:
-    """The cost of a plan in format 2 for a network of so many switches, where it is waited so many seconds before each round; None where nobody knows."""
+    """The cost of a plan in format 2 for a network of so many switches, where it is waited so many seconds before each
+    round; None where nobody knows."""
     changed = [plan["rules"][rule]["switch"] for changes in plan["rounds"] for _, rule in changes]
     least = "" if wait is None else f", at least {duration(len(plan['rounds']) * wait)}"
-    return (f"{counted(len(plan['rounds']), 'round')}, {counted(len(changed), 'change')} at {len(set(changed))} of {counted(switches, 'switch', 'switches')}{least}")
+    return (
+        f"{counted(len(plan['rounds']), 'round')}, {counted(len(changed), 'change')} at {len(set(changed))} of"
+        f" {counted(switches, 'switch', 'switches')}{least}"
+    )
 
 
 class Costs:
@@ -51,13 +56,18 @@ class Costs:
 
     def words(self, plan: dict[str, Any]) -> list[str]:
         """A line for the plan, and what the other kind would cost."""
-        return [f"this is {ARTICLES[plan['kind']]}: {cost_words(plan, self.switches, self.wait)}", *self.other_words(OTHER[plan["kind"]])]
+        return [
+            f"this is {ARTICLES[plan['kind']]}: {cost_words(plan, self.switches, self.wait)}",
+            *self.other_words(OTHER[plan["kind"]]),
+        ]
 
     def other_words(self, kind: str) -> list[str]:
         """What a plan of a kind would cost, or why there is none."""
         status, text = self.ask("pack", *self.paths, kind)
         if status == 0:
-            return [f"{ARTICLES[kind]} (KIND `{kind}`) would have {cost_words(json.loads(text), self.switches, self.wait)}"]
+            return [
+                f"{ARTICLES[kind]} (KIND `{kind}`) would have {cost_words(json.loads(text), self.switches, self.wait)}"
+            ]
         if status == 1 and text.startswith("no ordered plan\n"):
             return self.needed_words(text)
         if status in (4, 5):
@@ -70,14 +80,27 @@ class Costs:
         left = self.left_after(rounds)
         harmed, others, seen = self.harmed(rounds, left)
         before = f"behind {counted(len(rounds), 'round')} of one change none" if rounds else "none"
-        lines = [f"there is no ordered plan: {before} of the {counted(len(left), 'change')} that {'is' if len(left) == 1 else 'are'} left is safe alone"]
-        lines += [f"  packets that enter at {host} {nets.vlan_words(vlan)} for {address} could be harmed by the change {listed(switches)}"
-                  for (host, vlan, address), switches in list(harmed.items())[:NAMED]]
+        lines = [
+            f"there is no ordered plan: {before} of the {counted(len(left), 'change')} that"
+            f" {'is' if len(left) == 1 else 'are'} left is safe alone"
+        ]
+        lines += [
+            f"  packets that enter at {host} {nets.vlan_words(vlan)} for {address} could be harmed by the change"
+            f" {listed(switches)}"
+            for (host, vlan, address), switches in list(harmed.items())[:NAMED]
+        ]
         if len(harmed) > NAMED:
             lines.append(f"  and {counted(len(harmed) - NAMED, 'more class', 'more classes')} of packets")
-        lines += [f"  {listed(others)} there is no room for the change, or it meets an entry of its priority"] if others else []
+        lines += (
+            [f"  {listed(others)} there is no room for the change, or it meets an entry of its priority"]
+            if others
+            else []
+        )
         if seen < len(left):
-            lines.append(f"  {counted(len(left) - seen, 'change')} of them {'was' if len(left) - seen == 1 else 'were'} not looked at, for want of time")
+            lines.append(
+                f"  {counted(len(left) - seen, 'change')} of them {'was' if len(left) - seen == 1 else 'were'} not"
+                " looked at, for want of time"
+            )
         return lines
 
     def left_after(self, rounds: Sequence[Sequence[dict[str, Any]]]) -> list[dict[str, Any]]:
@@ -89,11 +112,15 @@ class Costs:
                 tables.make(change["do"], {name: value for name, value in change.items() if name != "do"})
         have = tables.rules
         left = [{"do": "delete", **have[key]} for key in have if key not in wanted]
-        return left + [{"do": "replace" if key in have else "insert", **rule} for key, rule in wanted.items() if key not in have or action_of(have[key]) != action_of(rule)]
+        return left + [
+            {"do": "replace" if key in have else "insert", **rule}
+            for key, rule in wanted.items()
+            if key not in have or action_of(have[key]) != action_of(rule)
+        ]
 
     def harmed(self, rounds: Sequence[Any], left: Sequence[dict[str, Any]]) -> tuple[Any, list[str], int]:
-        """By the first class of packets that no evidence keeps safe the switches whose changes could harm it; the switches of the other changes; and how many
-        changes were looked at."""
+        """By the first class of packets that no evidence keeps safe the switches whose changes could harm it; the
+        switches of the other changes; and how many changes were looked at."""
         until = time.monotonic() + LONGEST
         found: dict[tuple[str, str, str], list[str]] = {}
         others: list[str] = []

@@ -1,4 +1,5 @@
-"""What `planner update --json` and `planner apply --json` write: a line of JSON for each thing that happens, as it happens."""
+"""What `planner update --json` and `planner apply --json` write: a line of JSON for each thing that happens, as it
+happens."""
 from __future__ import annotations
 
 import io
@@ -43,8 +44,8 @@ def tell_events(happened: Sequence[Event]) -> None:
 
 
 class Lines(io.TextIOBase):
-    """An error stream whose lines are written as events. What has no line end when it is flushed, a question, goes to the error stream all the same, and so
-    does each line when nobody reads the events any more."""
+    """An error stream whose lines are written as events. What has no line end when it is flushed, a question, goes to
+    the error stream all the same, and so does each line when nobody reads the events any more."""
 
     def __init__(self, stream: TextIO) -> None:
         super().__init__()

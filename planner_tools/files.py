@@ -1,7 +1,8 @@
-"""The reader of JSON files: a tree in which each value knows where it stands, and what is wrong with a text that is no JSON.
+"""The reader of JSON files: a tree in which each value knows where it stands, and what is wrong with a text that is no
+JSON.
 
-What is JSON is what the program reads: RFC 8259, at most 127 levels open at once, no byte order mark, numbers within the range of a float. Of members
-with one name the last counts.
+What is JSON is what the program reads: RFC 8259, at most 127 levels open at once, no byte order mark, numbers within
+the range of a float. Of members with one name the last counts.
 """
 from __future__ import annotations
 
@@ -25,7 +26,9 @@ ESCAPES = {"b": "\b", "f": "\f", "n": "\n", "r": "\r", "t": "\t"}
 CONSTANTS = {"true": True, "false": False, "null": None}
 CONSTANT = re.compile("true|false|null")
 # Words for `true` and the like in other languages.
-OTHER_CONSTANTS = {"True": "true", "False": "false", "None": "null", "TRUE": "true", "FALSE": "false", "NULL": "null", "nil": "null"}
+OTHER_CONSTANTS = {
+    "True": "true", "False": "false", "None": "null", "TRUE": "true", "FALSE": "false", "NULL": "null", "nil": "null",
+}
 CURLY_QUOTES = "\u2018\u2019\u201c\u201d\u00ab\u00bb\u201e"
 OPEN_WORDS = {"object": "the object", "list": "the list"}
 # A whole number of more characters is beyond all that are taken.
@@ -45,8 +48,9 @@ class NotJson(Exception):
 
 
 class Value:
-    """A JSON value: its kind (object, list, text, number, truth, null), from which to which character it stands, and what it holds: of an object the
-    members as (name, where the name stands, value), of a list the items, otherwise the value in Python."""
+    """A JSON value: its kind (object, list, text, number, truth, null), from which to which character it stands, and
+    what it holds: of an object the members as (name, where the name stands, value), of a list the items, otherwise the
+    value in Python."""
 
     __slots__ = ("kind", "start", "end", "held")
 
@@ -72,7 +76,8 @@ class Value:
 class Text:
     """A file as text, which knows its lines. `path` is the name as it was typed."""
 
-    told: list[tuple[str, Text, int]] | None = None          # where the answer is one for machines, the places that were put into words: the words, the text, the character
+    # where the answer is one for machines, the places that were put into words: the words, the text, the character
+    told: list[tuple[str, Text, int]] | None = None
 
     def __init__(self, path: str, data: bytes) -> None:
         self.path = path
@@ -102,7 +107,10 @@ class Text:
 
 def short(text: str) -> str:
     """A text on one line, cut where it is long."""
-    text = re.sub(r"\s+", " ", "".join(one if one.isprintable() or one.isspace() else f"\\x{ord(one):02x}" for one in text[:4 * SHOWN]))
+    text = re.sub(
+        r"\s+", " ",
+        "".join(one if one.isprintable() or one.isspace() else f"\\x{ord(one):02x}" for one in text[: 4 * SHOWN]),
+    )
     return text if len(text) <= SHOWN else text[:SHOWN - 2] + ".."
 
 
@@ -122,7 +130,13 @@ class Json(Text):
         """The value at the end of a way of member names and item numbers, or the last one on it that is there."""
         value = self.root
         for step in way:
-            held = value.member(step) if isinstance(step, str) else value.held[step] if value.kind == "list" and step < len(value.held) else None
+            held = (
+                value.member(step)
+                if isinstance(step, str)
+                else value.held[step]
+                if value.kind == "list" and step < len(value.held)
+                else None
+            )
             if held is None:
                 return value
             value = held
@@ -140,7 +154,8 @@ def read_bytes(path: str, limit: int | None = None) -> bytes:
 
 
 def read_json(path: str, shown: str | None = None) -> Json:
-    """Reads a file into values. NotJson where it is none, OSError where it can't be read. `shown` is the name of the file as it was typed."""
+    """Reads a file into values. NotJson where it is none, OSError where it can't be read. `shown` is the name of the
+    file as it was typed."""
     return Json(shown or path, read_bytes(path))
 
 
@@ -155,7 +170,10 @@ class Reading:
         self.look_at_bytes()
         at = self.skip(0)
         if at == len(self.text):
-            raise NotJson("the file is empty" if not self.text else "the file has nothing but white space", 0, "a JSON object: { .. }")
+            raise NotJson(
+                "the file is empty" if not self.text else "the file has nothing but white space", 0,
+                "a JSON object: { .. }",
+            )
         value = self.value(at)
         rest = self.skip(value.end)
         if rest < len(self.text):
@@ -164,7 +182,10 @@ class Reading:
 
     def look_at_bytes(self) -> None:
         data = self.source.data
-        for mark, name in ((b"\xef\xbb\xbf", "a byte order mark"), (b"\xff\xfe", "the byte order mark of UTF-16"), (b"\xfe\xff", "the byte order mark of UTF-16")):
+        for mark, name in (
+            (b"\xef\xbb\xbf", "a byte order mark"), (b"\xff\xfe", "the byte order mark of UTF-16"),
+            (b"\xfe\xff", "the byte order mark of UTF-16"),
+        ):
             if data.startswith(mark):
                 raise NotJson(f"the file begins with {name}", 0, "save it as UTF-8 without one")
         if b"\0" in data[:4] and len(data) > 1:
@@ -217,7 +238,10 @@ class Reading:
         """The text that an escaped one stands for."""
         units = [(int(found[1], 16), found.start()) for found in ESCAPE.finditer(text) if found[1]]
         held = ESCAPE.sub(lambda found: chr(int(found[1], 16)) if found[1] else ESCAPES.get(found[2], found[2]), text)
-        held = re.sub("[\ud800-\udbff][\udc00-\udfff]", lambda pair: pair[0].encode("utf-16", "surrogatepass").decode("utf-16"), held)
+        held = re.sub(
+            "[\ud800-\udbff][\udc00-\udfff]", lambda pair: pair[0].encode("utf-16", "surrogatepass").decode("utf-16"),
+            held,
+        )
         if re.search("[\ud800-\udfff]", held):
             where = next((start for unit, start in units if 0xD800 <= unit < 0xE000), 0)
             raise NotJson("half a surrogate pair stands alone", at + where, "both halves, or the character itself")
@@ -267,13 +291,24 @@ class Reading:
         self.raise_at_end(at)
         one = self.text[at]
         if one in "}]":
-            raise NotJson(f"{one} stands where {OPEN_WORDS[kind]} that begins in line {self.source.place(start)[0]} is to be closed", at,
-                          "}" if kind == "object" else "]")
+            raise NotJson(
+                (
+                    f"{one} stands where {OPEN_WORDS[kind]} that begins in line {self.source.place(start)[0]} is to be"
+                    " closed"
+                ),
+                at, "}" if kind == "object" else "]",
+            )
         self.raise_comment(at)
         if one == ":" and kind == "list":
-            raise NotJson(f"a colon stands in the list that begins in line {self.source.place(start)[0]}", at, "] before this member, or { } around it")
+            raise NotJson(
+                f"a colon stands in the list that begins in line {self.source.place(start)[0]}", at,
+                "] before this member, or { } around it",
+            )
         if value.kind == "text" and one.isalpha():
-            raise NotJson(f"a quote is missing, or a comma: a text ends here, {short(self.text[value.start:value.end])}", value.end - 1, 'a quote " at the end of each text')
+            raise NotJson(
+                f"a quote is missing, or a comma: a text ends here, {short(self.text[value.start:value.end])}",
+                value.end - 1, 'a quote " at the end of each text',
+            )
         if one == '"' or one in "{[-" or one.isalnum():
             raise NotJson(f"a comma is missing behind {short(self.text[value.start:value.end])}", value.end, "a comma")
         raise NotJson(f"{short(self.text[at:at + 1])} stands where a comma or the end of {OPEN_WORDS[kind]} is due", at)
@@ -284,8 +319,13 @@ class Reading:
             return
         kind, start = self.open[-1]
         line, column = self.source.place(start)
-        raise NotJson(f"the file ends before {OPEN_WORDS[kind]} that begins in line {line}, column {column} is closed: it is cut off, or a bracket is missing", at,
-                      "}" if kind == "object" else "]")
+        raise NotJson(
+            (
+                f"the file ends before {OPEN_WORDS[kind]} that begins in line {line}, column {column} is closed: it is"
+                " cut off, or a bracket is missing"
+            ),
+            at, "}" if kind == "object" else "]",
+        )
 
     def raise_comment(self, at: int) -> None:
         if self.text.startswith(("//", "/*"), at) or self.text[at] == "#":
@@ -301,7 +341,10 @@ class Reading:
         one = self.text[at]
         if one in "]}," and self.text[:at].rstrip(" \t\n\r").endswith(","):
             before = len(self.text[:at].rstrip(" \t\n\r")) - 1
-            raise NotJson("two commas stand in a row" if one == "," else f"a comma stands before {one}", before, "the text without it")
+            raise NotJson(
+                "two commas stand in a row" if one == "," else f"a comma stands before {one}", before,
+                "the text without it",
+            )
         if one in "]},:":
             raise NotJson(f"a value is missing before {one}", at)
         if one == "'" or one in CURLY_QUOTES:
@@ -340,13 +383,24 @@ class Reading:
             if one == "\n":
                 raise NotJson("the text that begins here isn't closed in its line", at, 'the quote " at its end')
             if one < " ":
-                raise NotJson(f"the character {ord(one):02x} stands in a text{', a tab' if one == chr(9) else ''}", end, "\\t" if one == "\t" else "the text without it")
+                raise NotJson(
+                    f"the character {ord(one):02x} stands in a text{', a tab' if one == chr(9) else ''}", end,
+                    "\\t" if one == "\t" else "the text without it",
+                )
             if one == "\\" and not ESCAPE.match(self.text, end):
                 break
-            if one == "\\" and self.text[end + 1] not in '"\\/bfnrtu' or self.text.startswith("\\u", end) and not re.match(r"\\u[0-9a-fA-F]{4}", self.text[end:end + 6]):
+            if (
+                one == "\\"
+                and self.text[end + 1] not in '"\\/bfnrtu'
+                or self.text.startswith("\\u", end)
+                and not re.match(r"\\u[0-9a-fA-F]{4}", self.text[end : end + 6])
+            ):
                 raise NotJson(f"{short(self.text[end:end + 2])} is no escape of JSON", end, "\\\\ for the character \\")
             end += 2 if one == "\\" else 1
-        raise NotJson("the file ends in the text that begins here: it is cut off, or a quote is missing", at, 'the quote " at its end')
+        raise NotJson(
+            "the file ends in the text that begins here: it is cut off, or a quote is missing", at,
+            'the quote " at its end',
+        )
 
     def raise_no_name(self, at: int, has_members: bool) -> None:
         """No name of a member begins at a character."""
@@ -356,7 +410,10 @@ class Reading:
         if one == "}" and has_members:
             raise NotJson("a comma stands before }", len(self.text[:at].rstrip(" \t\n\r")) - 1, "the text without it")
         if one == ",":
-            raise NotJson("two commas stand in a row" if has_members else "a comma stands before the first member", at, "the text without it")
+            raise NotJson(
+                "two commas stand in a row" if has_members else "a comma stands before the first member", at,
+                "the text without it",
+            )
         if one == "'" or one in CURLY_QUOTES:
             raise NotJson(f"{one} is no quote of JSON", at, 'the quote "')
         word = WORD.match(self.text, at)
@@ -374,7 +431,9 @@ class Reading:
         """Something stands behind the value of the file."""
         self.raise_comment(at)
         if self.text[at] in "}]":
-            raise NotJson(f"{self.text[at]} stands behind the end: a bracket is closed that isn't open", at, "the text without it")
+            raise NotJson(
+                f"{self.text[at]} stands behind the end: a bracket is closed that isn't open", at, "the text without it"
+            )
         raise NotJson(f"{short(self.text[at:at + 20])} stands behind the end of the first value", at, "one value alone")
 
 
@@ -397,7 +456,9 @@ def nearest(name: int | str, known: dict[str, Any] | Sequence[int | str]) -> str
     found = difflib.get_close_matches(text, names, 1, LIKE)
     if found:
         return found[0]
-    starts = [one for one in names if len(text) >= 3 and (one.startswith(text) or text.startswith(one) and len(one) >= 3)]
+    starts = [
+        one for one in names if len(text) >= 3 and (one.startswith(text) or text.startswith(one) and len(one) >= 3)
+    ]
     return starts[0] if len(starts) == 1 else None
 
 
@@ -408,7 +469,8 @@ def did_you_mean(name: int | str, known: Any) -> str:
 
 
 def like(path: str, is_fixed: bool = False) -> str:
-    """Words for a file beside a path that isn't there and has a similar name, or none. A name that is fixed is no likely one for another such name."""
+    """Words for a file beside a path that isn't there and has a similar name, or none. A name that is fixed is no
+    likely one for another such name."""
     from planner_tools.words import IN_FOLDER
     folder, name = os.path.split(path)
     try:

@@ -1,9 +1,11 @@
-"""What the files of a configuration and its policy say without `paths` of the program: whether a warning about demands and rules can be due at all.
+"""What the files of a configuration and its policy say without `paths` of the program: whether a warning about demands
+and rules can be due at all.
 
-A class is free where no demand covers it. It leaves the network only where the table in which it enters has a rule that sends it on: where none has, it is
-dropped there, and that is seen without a walk. A host port and a VLAN are served where such a table has a rule that sends on and that no rule of a higher
-priority touches. Whether packets leave at a host port, and whether a demand without `deliver` asks for something, is seen by following a few packets. Wherever
-that leaves a doubt, `paths` is asked: what is said of paths is what it says.
+A class is free where no demand covers it. It leaves the network only where the table in which it enters has a rule that
+sends it on: where none has, it is dropped there, and that is seen without a walk. A host port and a VLAN are served
+where such a table has a rule that sends on and that no rule of a higher priority touches. Whether packets leave at a
+host port, and whether a demand without `deliver` asks for something, is seen by following a few packets. Wherever that
+leaves a doubt, `paths` is asked: what is said of paths is what it says.
 """
 from __future__ import annotations
 
@@ -33,7 +35,9 @@ class Rule:
     __slots__ = ("priority", "in_port", "vlan", "first", "length", "out")
 
     def __init__(self, rule: dict[str, Any]) -> None:
-        self.priority, self.in_port, self.vlan, self.out = rule["priority"], rule.get("in_port", ANY), rule.get("vlan", ANY), rule["out"]
+        self.priority, self.in_port, self.vlan, self.out = (
+            rule["priority"], rule.get("in_port", ANY), rule.get("vlan", ANY), rule["out"],
+        )
         self.first, self.length = prefix_of(rule["dst"])
 
     def way(self) -> tuple[int | str, int | str, int | str]:
@@ -49,14 +53,17 @@ def prefix_of(text: str) -> tuple[int, int]:
 
 
 class FirstTables:
-    """The tables of a configuration beside a policy, both as JSON that was read. Doubt where they aren't of the right form."""
+    """The tables of a configuration beside a policy, both as JSON that was read. Doubt where they aren't of the right
+    form."""
 
     def __init__(self, topology: Any, config: Any, policy: Any) -> None:
         self.hosts = [nets.port_reference(one) for one in topology["hosts"]]
         self.vlans, self.demands = topology["vlans"], policy["demands"] if policy is not None else []
         self.peers = {}
         for one, other in topology["links"]:
-            self.peers[nets.port_reference(one)], self.peers[nets.port_reference(other)] = nets.port_reference(other), nets.port_reference(one)
+            self.peers[nets.port_reference(one)], self.peers[nets.port_reference(other)] = nets.port_reference(
+                other
+            ), nets.port_reference(one)
         self.ends = {*self.hosts, *self.peers}
         self.tables: dict[str, list[Rule]] = {}
         for rule in config["rules"]:
@@ -82,18 +89,22 @@ class FirstTables:
         return len(self.hosts) * len(self.vlans) * len(self.atoms)
 
     def sends(self, way: tuple[int | str, int | str, int | str], host: tuple[str, int]) -> bool:
-        """Whether rules of such a way send on what enters at a host port: they drop nothing, and don't send back to the port that it came in by."""
+        """Whether rules of such a way send on what enters at a host port: they drop nothing, and don't send back to the
+        port that it came in by."""
         in_port, _, out = way
         return out not in ("drop", host[1]) and in_port in (ANY, host[1]) and (host[0], out) in self.ends
 
     def ways_of(self, switch: str) -> tuple[Any, Any]:
-        """Of the rules of a switch, found once: the ways of those that none of a higher priority touches, and of each way the atoms of all its rules."""
+        """Of the rules of a switch, found once: the ways of those that none of a higher priority touches, and of each
+        way the atoms of all its rules."""
         if switch not in self.ways:
             table = self.tables.get(switch, [])
             ranges: dict[Any, set[tuple[int, int]]] = {}
             for rule in table:
                 ranges.setdefault(rule.way(), set()).add(self.atoms_of(rule.first, rule.length))
-            self.ways[switch] = {rule.way() for rule in untouched(table)}, {way: covered(it) for way, it in ranges.items()}
+            self.ways[switch] = {rule.way() for rule in untouched(table)}, {
+                way: covered(it) for way, it in ranges.items()
+            }
         return self.ways[switch]
 
     # ---- host ports and VLANs that are served
@@ -126,7 +137,9 @@ class FirstTables:
                 if self.sends(way, host):
                     sending[way[1]] = sending.get(way[1], 0) | atoms
             for vlan in self.vlans:
-                free = ~either(demanded, [(ANY, ANY), (name, ANY), (ANY, vlan), (name, vlan)]) & (1 << len(self.atoms)) - 1
+                free = (
+                    ~either(demanded, [(ANY, ANY), (name, ANY), (ANY, vlan), (name, vlan)]) & (1 << len(self.atoms)) - 1
+                )
                 if free & either(sending, [ANY, vlan]):
                     raise Doubt
                 count += bin(free).count("1")
@@ -135,7 +148,9 @@ class FirstTables:
     def is_left_at(self, host: tuple[str, int]) -> bool:
         """Whether one of a few packets leaves at a host port: of those to whose addresses rules send out there."""
         addresses = dict.fromkeys(rule.first for rule in self.tables.get(host[0], []) if rule.out == host[1])
-        packets = ((one, vlan, address) for address in addresses for one in self.hosts if one != host for vlan in self.vlans)
+        packets = (
+            (one, vlan, address) for address in addresses for one in self.hosts if one != host for vlan in self.vlans
+        )
         return any(self.end_of(*packet) == host for packet, _ in zip(packets, range(MOST_FOLLOWED)))
 
     # ---- demands without `deliver`
@@ -145,7 +160,9 @@ class FirstTables:
         for demand, span in zip(self.demands, self.spans):
             if demand.get("vlan", ANY) not in (ANY, *self.vlans):
                 raise Doubt
-            if not demand.get("deliver") and all(self.end_of(*packet) is None for packet in self.packets_of(demand, span)):
+            if not demand.get("deliver") and all(
+                self.end_of(*packet) is None for packet in self.packets_of(demand, span)
+            ):
                 raise Doubt
 
     def packets_of(self, demand: dict[str, Any], span: tuple[int, int]) -> Iterable[Any]:
@@ -176,7 +193,8 @@ class FirstTables:
         return place[0]
 
     def rule_for(self, place: tuple[str, int], vlan: int | str, address: int) -> Rule:
-        """The rule that counts for a packet: that of the highest priority among those of its address, by length, ingress port and VLAN."""
+        """The rule that counts for a packet: that of the highest priority among those of its address, by length,
+        ingress port and VLAN."""
         if place[0] not in self.found:
             self.found[place[0]] = by_pattern(self.tables.get(place[0], []))
         lengths, rules = self.found[place[0]]
@@ -192,12 +210,16 @@ class FirstTables:
 
 
 def by_pattern(table: Sequence[Rule]) -> tuple[set[int], Any]:
-    """The lengths of the prefixes of a table, and its rules by what they match; of several the one of the highest priority."""
-    return {rule.length for rule in table}, {(rule.in_port, rule.vlan, rule.first, rule.length): rule for rule in reversed(table)}
+    """The lengths of the prefixes of a table, and its rules by what they match; of several the one of the highest
+    priority."""
+    return {rule.length for rule in table}, {
+        (rule.in_port, rule.vlan, rule.first, rule.length): rule for rule in reversed(table)
+    }
 
 
 def untouched(table: Sequence[Rule]) -> list[Rule]:
-    """The rules of a table, which stands by falling priority, that have no address in common with one of a higher priority."""
+    """The rules of a table, which stands by falling priority, that have no address in common with one of a higher
+    priority."""
     found = []
     seen = set()
     above: set[tuple[int, int]] = set()
@@ -212,7 +234,9 @@ def untouched(table: Sequence[Rule]) -> list[Rule]:
                 above.update((one.first >> 32 - length << 32 - length, length) for length in range(one.length))
             waiting, priority = [], rule.priority
         waiting.append(rule)
-        is_within = any((rule.first >> 32 - length << 32 - length, length) in seen for length in lengths if length <= rule.length)
+        is_within = any(
+            (rule.first >> 32 - length << 32 - length, length) in seen for length in lengths if length <= rule.length
+        )
         if not is_within and (rule.first, rule.length) not in above:
             found.append(rule)
     return found
@@ -234,8 +258,8 @@ def either(bits: dict[Any, int], keys: Sequence[Any]) -> int:
 
 
 def free_classes(topology: Any, config: Any, policy: Any) -> tuple[int | None, int]:
-    """How many classes no demand covers, where they are all dropped where they enter, and how many classes there are. The first is None where a warning may be
-    due, or the files aren't of the right form: then `paths` has to say it."""
+    """How many classes no demand covers, where they are all dropped where they enter, and how many classes there are.
+    The first is None where a warning may be due, or the files aren't of the right form: then `paths` has to say it."""
     count = 0
     try:
         tables = FirstTables(topology, config, policy)

@@ -10,7 +10,8 @@ TYPE_CHECKING = False
 if TYPE_CHECKING:
     from typing import Any, Callable, Sequence
 
-# The modules of the front end's own commands. Each has `main`, which takes the words behind the command and returns the exit status.
+# The modules of the front end's own commands. Each has `main`, which takes the words behind the command and returns the
+# exit status.
 MODULES = {
     "adopt": "planner_tools.switches.adopt",
     "apply": "planner_tools.switches.apply",
@@ -31,7 +32,9 @@ MODULES = {
 # Those of them that are quiet or strict themselves.
 WITH_FLAGS = ("apply", "policy", "route", "update")
 # Those of them whose answer `-o FILE` takes.
-WITH_OUTPUT = ("collect", "diff", "from-graphml", "from-mininet", "from-ofctl", "links", "page", "policy", "route", "show")
+WITH_OUTPUT = (
+    "collect", "diff", "from-graphml", "from-mininet", "from-ofctl", "links", "page", "policy", "route", "show",
+)
 # Those of them in which a folder stands for names.
 UNFOLDING = ("apply", "collect", "page")
 WRONG_WORDS, UNWRITTEN, INTERRUPTED = 2, 7, 130
@@ -89,8 +92,9 @@ def ended(number: int, _: object) -> None:
 
 
 def fill_gaps() -> None:
-    """Where the front end was begun without a standard stream, puts something in its place, so that no file that it opens gets its number: from the input
-    nothing can be read, to the output nothing can be written, and what is said goes nowhere. The program is begun without that stream too."""
+    """Where the front end was begun without a standard stream, puts something in its place, so that no file that it
+    opens gets its number: from the input nothing can be read, to the output nothing can be written, and what is said
+    goes nowhere. The program is begun without that stream too."""
     for number, mode in ((0, os.O_WRONLY), (1, os.O_RDONLY), (2, os.O_WRONLY)):
         try:
             os.fstat(number)
@@ -119,7 +123,9 @@ def unwritten(fault: OSError) -> int:
     """Says that the standard output couldn't be written, and sees that it isn't tried again."""
     from planner_tools.voice import Voice
     os.dup2(os.open(os.devnull, os.O_WRONLY), 1)
-    Voice().refuse(f"the standard output: the output couldn't all be written: {fault.strerror}; what is there isn't whole")
+    Voice().refuse(
+        f"the standard output: the output couldn't all be written: {fault.strerror}; what is there isn't whole"
+    )
     return UNWRITTEN
 
 
@@ -174,11 +180,15 @@ def missing_folder(words: Sequence[str]) -> None:
     from planner_tools.files import like
     from planner_tools.proved import Unable
     if not is_option(words[1]) and not os.path.exists(words[1]) and (len(words) == 2 or is_option(words[2])):
-        raise Unable(f"{words[1]}: No such file or directory{like(words[1])}", WRONG_WORDS, [f"a folder stands for the files that are left out: planner {words[0]} FOLDER"])
+        raise Unable(
+            f"{words[1]}: No such file or directory{like(words[1])}", WRONG_WORDS,
+            [f"a folder stands for the files that are left out: planner {words[0]} FOLDER"],
+        )
 
 
 def warn_of_doubtful(words: Sequence[str], options: Options) -> None:
-    """Warns of words of a command of the front end that name a file of the working folder, though the folder before them has one of that name."""
+    """Warns of words of a command of the front end that name a file of the working folder, though the folder before
+    them has one of that name."""
     from planner_tools.proved import BAD_FILE, Unable, doubtful
     from planner_tools.voice import Voice
     is_quiet, is_strict = options.is_quiet or "--quiet" in words, options.is_strict or "--strict" in words
@@ -190,7 +200,8 @@ def warn_of_doubtful(words: Sequence[str], options: Options) -> None:
 
 
 def unfolded(words: list[str], options: Options) -> list[str]:
-    """The words of a command of the front end, where a folder stands for the names of files that are left out before its options."""
+    """The words of a command of the front end, where a folder stands for the names of files that are left out before
+    its options."""
     if words[0] not in UNFOLDING or len(words) < 2:
         return words
     if words[0] == "page" and words[1] == "-" and (len(words) == 2 or is_option(words[2])):
@@ -203,11 +214,16 @@ def unfolded(words: list[str], options: Options) -> list[str]:
     warn_of_doubtful(words, options)
     end = next((at for at, word in enumerate(words) if is_option(word)), len(words))
     wanted = [word for word in BY_NAME[words[0]].usage.partition(" -")[0].split() if not word.startswith("[")]
-    return [words[0], *[str(getattr(one, "shown", one)) for one in Run.unfolded(words[1], wanted, len(wanted), words[2:end])], *words[end:]]
+    return [
+        words[0],
+        *[str(getattr(one, "shown", one)) for one in Run.unfolded(words[1], wanted, len(wanted), words[2:end])],
+        *words[end:],
+    ]
 
 
 def run_module(words: list[str], options: Options) -> int:
-    """Runs a command of the front end itself; with `-o` its output goes into a file, which is there only where the status is 0."""
+    """Runs a command of the front end itself; with `-o` its output goes into a file, which is there only where the
+    status is 0."""
     import importlib
     words = [*words, *options.flags()] if words[0] in WITH_FLAGS else words
     command, words = importlib.import_module(MODULES[words[0]]).main, unfolded(words, options)
@@ -239,7 +255,10 @@ def print_help(words: Sequence[str]) -> int:
     if command is None:
         from planner_tools.files import did_you_mean
         from planner_tools.voice import Voice
-        Voice().refuse(f"no command is named `{words[0]}`{did_you_mean(words[0], all_words.BY_NAME)}", ["`planner --help` has the commands"])
+        Voice().refuse(
+            f"no command is named `{words[0]}`{did_you_mean(words[0], all_words.BY_NAME)}",
+            ["`planner --help` has the commands"],
+        )
         return WRONG_WORDS
     sys.stdout.write(all_words.command_help(command))
     return 0

@@ -31,13 +31,19 @@ def escaped(text: str) -> str:
 
 def usage_line(command: words.Command) -> str:
     """Returns the words behind a command: names in italics, options in bold."""
-    parts = [re.sub(r"([^\[\]]+)", r"\\fI\1\\fP" if not word.strip("[]").startswith("-") else r"\\fB\1\\fP", word) for word in command.usage.split()]
+    parts = [
+        re.sub(r"([^\[\]]+)", r"\\fI\1\\fP" if not word.strip("[]").startswith("-") else r"\\fB\1\\fP", word)
+        for word in command.usage.split()
+    ]
     return " ".join(part.replace("-", "\\-") for part in parts)
 
 
 def manual() -> str:
     """Returns the manual page of all commands."""
-    lines = ['.TH PLANNER 1 "" "" "User commands"', ".SH NAME", "planner \\- plan and check updates of OpenFlow 1.0 networks", ".SH SYNOPSIS"]
+    lines = [
+        '.TH PLANNER 1 "" "" "User commands"', ".SH NAME",
+        "planner \\- plan and check updates of OpenFlow 1.0 networks", ".SH SYNOPSIS",
+    ]
     for at, command in enumerate(words.COMMANDS):
         lines += [".br"] if at else []
         lines += [f"\\fBplanner {command.name}\\fP {usage_line(command)}".replace("from-", "from\\-")]
@@ -73,12 +79,18 @@ def completion() -> str:
     for command in words.COMMANDS:
         files = [word for word in command.words()[0] if word in words.FILES]
         counts.setdefault(len(files), []).append(command.name)
-    cases = "".join(f"        {' | '.join(names)}) files={count} ;;\n" for count, names in sorted(counts.items()) if count)
+    cases = "".join(
+        f"        {' | '.join(names)}) files={count} ;;\n" for count, names in sorted(counts.items()) if count
+    )
     options = " ".join(flag.split()[0] for flag, _ in words.OPTIONS if flag != "--version")
     names = " ".join([*(command.name for command in words.COMMANDS), "--help", "--version"])
     own = "".join(f'            {name}) options="{flags_of(name)} $options" ;;\n' for name in words.OWN_OPTIONS)
-    chosen = "".join(f'        {command.name}) choices="{" ".join(words.CHOICES[word])}" ;;\n' for command in words.COMMANDS for word in command.words()[0]
-                     if word in words.CHOICES)
+    chosen = "".join(
+        f'        {command.name}) choices="{" ".join(words.CHOICES[word])}" ;;\n'
+        for command in words.COMMANDS
+        for word in command.words()[0]
+        if word in words.CHOICES
+    )
     return f"""# Completes the words of the planner in bash:  . docs/planner.bash
 
 _planner() {{
@@ -115,11 +127,16 @@ complete -o default -F _planner planner ./planner
 
 def table() -> str:
     """Returns the table of the README: what people want, and the commands for it."""
-    rows = "".join(f"| {wish} | {', '.join(f'`{name}`' for name in names if name in words.BY_NAME)} |\n" for wish, names in words.WISHES)
+    rows = "".join(
+        f"| {wish} | {', '.join(f'`{name}`' for name in names if name in words.BY_NAME)} |\n"
+        for wish, names in words.WISHES
+    )
     return f"| You want | Commands |\n|---|---|\n{rows}"
 
 
 def long_table() -> str:
     """Returns the table of all commands, with their words and answers."""
-    rows = "".join(f"| `planner {f'{command.name} {command.usage}'.strip()}` | {command.answer} |\n" for command in words.COMMANDS)
+    rows = "".join(
+        f"| `planner {f'{command.name} {command.usage}'.strip()}` | {command.answer} |\n" for command in words.COMMANDS
+    )
     return f"| Command | Answer |\n|---|---|\n{rows}"

@@ -1,4 +1,5 @@
-"""A network, its rules and its demands as the files have them, in words. What is read here was read by the program before, or is judged by it next."""
+"""A network, its rules and its demands as the files have them, in words. What is read here was read by the program
+before, or is judged by it next."""
 from __future__ import annotations
 
 import re
@@ -10,7 +11,9 @@ if TYPE_CHECKING:
     from planner_tools.files import Json, Value
 
 PORT = re.compile(r"0|[1-9][0-9]{0,4}")
-PREFIX = re.compile(r"(0|[1-9][0-9]{0,2})\.(0|[1-9][0-9]{0,2})\.(0|[1-9][0-9]{0,2})\.(0|[1-9][0-9]{0,2})/(0|[1-9][0-9]?)")
+PREFIX = re.compile(
+    r"(0|[1-9][0-9]{0,2})\.(0|[1-9][0-9]{0,2})\.(0|[1-9][0-9]{0,2})\.(0|[1-9][0-9]{0,2})/(0|[1-9][0-9]?)"
+)
 NAME = re.compile(r"[A-Za-z0-9_-]{1,32}")
 LAST_PORT, LAST_VLAN = 65279, 4094
 
@@ -95,7 +98,8 @@ class Network:
         return f"the host at {end}" if end in self.hosts else f"port {port}, which nothing is known to be behind"
 
 
-# What is said of a rule whose output is the port that the packet came in by: OpenFlow 1.0 sends nothing back by an ordinary output.
+# What is said of a rule whose output is the port that the packet came in by: OpenFlow 1.0 sends nothing back by an
+# ordinary output.
 BACK = "its output is the port it came in by"
 
 
@@ -125,8 +129,11 @@ def target_words(rule: dict[str, Any], network: Network) -> str:
     return action_words(rule, network).removeprefix("to ").replace("is dropped", "dropped")
 
 
-def change_words(do: str, rule: dict[str, Any], before: dict[str, Any] | None, network: Network, has_priority: bool = True) -> str:
-    """A change in words, as `10.0.0.0/24 to s4 (port 4), was s2 (port 2)`; `before` is the entry that was there, or None where it isn't known."""
+def change_words(
+    do: str, rule: dict[str, Any], before: dict[str, Any] | None, network: Network, has_priority: bool = True
+) -> str:
+    """A change in words, as `10.0.0.0/24 to s4 (port 4), was s2 (port 2)`; `before` is the entry that was there, or
+    None where it isn't known."""
     words = match_words(rule) + (f", priority {rule['priority']}," if has_priority else "")
     if do == "insert":
         return f"{words} {action_words(rule, network)}, new"

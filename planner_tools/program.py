@@ -1,7 +1,8 @@
 """The proved program: where it is, runs of it, and its build.
 
-The program is the one that the environment variable PLANNER names; otherwise in a checkout the one of dist/, where that was built from the files that
-are there, or else the one that was built there; otherwise the one that is installed beside this package.
+The program is the one that the environment variable PLANNER names; otherwise in a checkout the one of dist/, where that
+was built from the files that are there, or else the one that was built there; otherwise the one that is installed
+beside this package.
 """
 from __future__ import annotations
 
@@ -60,7 +61,10 @@ def path() -> str:
         if os.access(one, os.X_OK):
             return one
     if is_checkout():
-        raise CannotRun(f"the program isn't built yet: `python3 {os.path.relpath(BUILD)} planner_cli` proves and builds it; {shipped.why_not(ROOT)}")
+        raise CannotRun(
+            f"the program isn't built yet: `python3 {os.path.relpath(BUILD)} planner_cli` proves and builds it;"
+            f" {shipped.why_not(ROOT)}"
+        )
     raise CannotRun(f"the program isn't there: {INSTALLED} is missing, or PLANNER has to name it")
 
 
@@ -83,7 +87,8 @@ def described() -> str:
 
 
 class Started:
-    """A run of the program, whose text is read as it comes. (The module subprocess does more, and takes as long to load as the rest of the front end.)"""
+    """A run of the program, whose text is read as it comes. (The module subprocess does more, and takes as long to load
+    as the rest of the front end.)"""
 
     def __init__(self, *words: str) -> None:
         import signal
@@ -92,7 +97,10 @@ class Started:
         self.status: int | None = None
         try:
             # What Python ignores for itself the program doesn't.
-            self.number = os.posix_spawnp(words[0], words, os.environ, file_actions=[(os.POSIX_SPAWN_DUP2, writer, 1)], setsigdef=[signal.SIGPIPE, signal.SIGXFSZ])
+            self.number = os.posix_spawnp(
+                words[0], words, os.environ, file_actions=[(os.POSIX_SPAWN_DUP2, writer, 1)],
+                setsigdef=[signal.SIGPIPE, signal.SIGXFSZ],
+            )
         except OSError as fault:
             self.close()
             raise CannotRun(f"the program can't be run: {fault}") from fault
@@ -143,7 +151,11 @@ def is_stale() -> bool:
         built = os.stat(BUILT).st_mtime_ns
     except OSError:
         return True
-    folders = [os.path.join(ROOT, "crates", crate, part) for crate in os.listdir(os.path.join(ROOT, "crates")) for part in shipped.PARTS]
+    folders = [
+        os.path.join(ROOT, "crates", crate, part)
+        for crate in os.listdir(os.path.join(ROOT, "crates"))
+        for part in shipped.PARTS
+    ]
     return os.stat(os.path.join(ROOT, "crates.txt")).st_mtime_ns > built or any(has_newer(it, built) for it in folders)
 
 
@@ -157,8 +169,8 @@ def has_newer(folder: str, moment: Any) -> bool:
 
 
 def built() -> str:
-    """The path of the program. In a checkout, where no variable names one and that of dist/ can't be run, it is proved and built first if it is missing
-    or older than a source."""
+    """The path of the program. In a checkout, where no variable names one and that of dist/ can't be run, it is proved
+    and built first if it is missing or older than a source."""
     if not named() and is_checkout() and shipped.why_not(ROOT) and is_stale():
         print(f"planner: the program is proved and built first: {shipped.why_not(ROOT)}", file=sys.stderr, flush=True)
         import subprocess

@@ -1,5 +1,5 @@
-"""One run of a proved command: the files that its words name, warnings before it, its text and status, which are handed on as they are, and what is
-said beside them."""
+"""One run of a proved command: the files that its words name, warnings before it, its text and status, which are handed
+on as they are, and what is said beside them."""
 from __future__ import annotations
 
 import os
@@ -25,8 +25,8 @@ TWICE = "`-` stands twice among the words, and the standard input can be read on
 
 
 class How:
-    """How a person wants runs of the program: quiet, where only refusals are told; strict, where warnings end them; or with the warnings about their files
-    said already, by `look`."""
+    """How a person wants runs of the program: quiet, where only refusals are told; strict, where warnings end them; or
+    with the warnings about their files said already, by `look`."""
 
     output, wait = None, None
 
@@ -49,12 +49,14 @@ def answer_for(how: How, *given: Given | str, good: Sequence[int] = (0,)) -> tup
 
 
 def say_why(*given: Given | str, good: Sequence[int] = (0,)) -> tuple[int, str]:
-    """Runs the program, and says what its answer means where its status is no good one. Returns its status and its text."""
+    """Runs the program, and says what its answer means where its status is no good one. Returns its status and its
+    text."""
     return answer_for(REFUSALS, *given, good=good)
 
 
 def look(how: How, *given: str) -> tuple[int, bool]:
-    """Says what there is to warn of in the files of a run that is to come. Returns how many warnings were said, and whether they end it: `how` is strict."""
+    """Says what there is to warn of in the files of a run that is to come. Returns how many warnings were said, and
+    whether they end it: `how` is strict."""
     run = Run(list(map(str, given)), how)
     run.resolve()
     run.program = program.path()
@@ -73,7 +75,8 @@ class Unable(Exception):
 
 
 class Given:
-    """A file of a run: the path that the program gets, its name as it is told, the folder for which it stands, or None, and the word that was typed."""
+    """A file of a run: the path that the program gets, its name as it is told, the folder for which it stands, or None,
+    and the word that was typed."""
 
     def __init__(self, real: str, shown: str, folder: str | None = None, typed: str | None = None) -> None:
         self.real, self.shown, self.folder, self.typed = real, shown, folder, typed or shown
@@ -93,7 +96,8 @@ def standard_input() -> IO[bytes]:
 
 
 class Names:
-    """The files that some words name, where one of them may be `-`, the standard input. Each is a path, which knows the name that is told."""
+    """The files that some words name, where one of them may be `-`, the standard input. Each is a path, which knows the
+    name that is told."""
 
     def __init__(self) -> None:
         self.spooled: IO[bytes] | None = None
@@ -124,10 +128,20 @@ def joined(folder: str, name: str) -> str:
 
 
 def beside(folder: str, name: str) -> str | None:
-    """The path of a file of a folder; where it is an update's, of the folder above it, which has the files that the update began with. None where there is none."""
+    """The path of a file of a folder; where it is an update's, of the folder above it, which has the files that the
+    update began with. None where there is none."""
     above = os.path.normpath(os.path.join(folder, os.pardir))
-    is_update = os.path.isfile(os.path.join(folder, "plan.json")) and not os.path.isfile(os.path.join(folder, "topology.json"))
-    return next((path for path in (joined(folder, name), *([joined(above, name)] if is_update else [])) if os.path.isfile(path)), None)
+    is_update = os.path.isfile(os.path.join(folder, "plan.json")) and not os.path.isfile(
+        os.path.join(folder, "topology.json")
+    )
+    return next(
+        (
+            path
+            for path in (joined(folder, name), *([joined(above, name)] if is_update else []))
+            if os.path.isfile(path)
+        ),
+        None,
+    )
 
 
 def inside(folder: str, name: str) -> Given | str:
@@ -137,13 +151,26 @@ def inside(folder: str, name: str) -> Given | str:
 
 
 def doubtful(folder: str, given: Sequence[Any]) -> list[tuple[str, list[str]]]:
-    """Of words behind a folder those that name a file of the working folder, though the folder has another file of that name: what is said of each."""
+    """Of words behind a folder those that name a file of the working folder, though the folder has another file of that
+    name: what is said of each."""
     found = []
     for word in given:
         path = joined(folder, word) if isinstance(word, str) else ""
-        if os.path.basename(str(word)) == word and os.path.isfile(word) and os.path.isfile(path) and not is_same(word, path):
-            found.append((f"{word} is the file of the working folder, and {folder} has another one of this name",
-                          [f"`{path}` names that one, and `{os.path.join('.', word)}` the one that is taken without this warning"]))
+        if (
+            os.path.basename(str(word)) == word
+            and os.path.isfile(word)
+            and os.path.isfile(path)
+            and not is_same(word, path)
+        ):
+            found.append(
+                (
+                    f"{word} is the file of the working folder, and {folder} has another one of this name",
+                    [
+                        f"`{path}` names that one, and `{os.path.join('.', word)}` the one that is taken without this"
+                        " warning"
+                    ],
+                )
+            )
     return found
 
 
@@ -186,12 +213,17 @@ class Run:
     # ---- the words
 
     def resolve(self) -> None:
-        """Finds the files behind the words: a folder stands for the names that are left out, `-` for the standard input."""
+        """Finds the files behind the words: a folder stands for the names that are left out, `-` for the standard
+        input."""
         if not self.command.usage:
             return
         wanted, least = self.command.words()
         rest = self.given[1:]
-        folder = rest[0] if rest and wanted and wanted[0] == "TOPO" and isinstance(rest[0], str) and os.path.isdir(rest[0]) else None
+        folder = (
+            rest[0]
+            if rest and wanted and wanted[0] == "TOPO" and isinstance(rest[0], str) and os.path.isdir(rest[0])
+            else None
+        )
         self.folder = folder
         if folder is not None:
             rest = self.unfolded(folder, wanted, least, rest[1:])
@@ -201,17 +233,30 @@ class Run:
         for word, text in zip(wanted, rest):
             if word in words.FILES:
                 self.files[word] = text if isinstance(text, Given) else self.file(text)
-        self.passed = [self.given[0], *(self.files[word].real if word in self.files else getattr(text, "typed", text) for word, text in zip(wanted, rest))]
+        self.passed = [
+            self.given[0],
+            *(
+                self.files[word].real if word in self.files else getattr(text, "typed", text)
+                for word, text in zip(wanted, rest)
+            ),
+        ]
 
     @staticmethod
     def unfolded(folder: str, wanted: Sequence[str], least: int, behind: Sequence[Any]) -> list[Any]:
         """The words of a command whose first names are in a folder: as many as are left out stand for files of it."""
         names = next((at for at, word in enumerate(wanted) if word not in words.FILES), len(wanted))
-        chosen = behind[-1:] if behind and names == least < len(wanted) and behind[-1] in words.CHOICES.get(wanted[names], ()) else []
+        chosen = (
+            behind[-1:]
+            if behind and names == least < len(wanted) and behind[-1] in words.CHOICES.get(wanted[names], ())
+            else []
+        )
         behind = [inside(folder, word) for word in behind[:len(behind) - len(chosen)]]
         count = min(max(1, least - len(behind)), names)
         in_folder = [words.IN_FOLDER.get(word, "") for word in wanted]
-        taken = [Given(path, path, folder) for path in (beside(folder, name) or joined(folder, name) for name in in_folder[:count])]
+        taken = [
+            Given(path, path, folder)
+            for path in (beside(folder, name) or joined(folder, name) for name in in_folder[:count])
+        ]
         rest: list[Any] = [*taken, *behind, *chosen]
         for name in in_folder[len(rest):]:
             path = beside(folder, name) if name else None
@@ -241,8 +286,8 @@ class Run:
         return self.for_person(self.hand_on, program.built)
 
     def for_person(self, work: Callable[..., Any], find: Callable[..., Any], good: Sequence[int] = (0,)) -> int:
-        """The one way in which the program is run for a person: the warnings about its files before it, its answer as `work` takes it, and what that means
-        behind it, where its status is no good one. Returns the exit status."""
+        """The one way in which the program is run for a person: the warnings about its files before it, its answer as
+        `work` takes it, and what that means behind it, where its status is no good one. Returns the exit status."""
         self.resolve()
         self.refuse_options()
         self.program = find()
@@ -288,7 +333,13 @@ class Run:
 
     def tell_costs(self) -> None:
         """Behind a plan of `pack`, where a person reads: what it costs, and what one of the other kind would."""
-        if self.status != 0 or self.command.name != "pack" or self.options.wait is None or not self.voice.is_read() or len(self.text.encode()) >= KEPT:
+        if (
+            self.status != 0
+            or self.command.name != "pack"
+            or self.options.wait is None
+            or not self.voice.is_read()
+            or len(self.text.encode()) >= KEPT
+        ):
             return
         import json
         plan = json.loads(self.text)
@@ -354,7 +405,8 @@ class Run:
 
 
 class Output:
-    """Where the text goes: to the standard output, or with `-o` into a file, which is there only where the answer is yes."""
+    """Where the text goes: to the standard output, or with `-o` into a file, which is there only where the answer is
+    yes."""
 
     def __init__(self, path: str | None) -> None:
         self.path, self.handle = path, STANDARD_OUTPUT
@@ -368,7 +420,9 @@ class Output:
         """Opens a new file beside the one that is to be written."""
         import tempfile
         try:
-            self.handle, self.name = tempfile.mkstemp(prefix=f".{os.path.basename(self.path)}.", dir=os.path.dirname(self.path) or ".")
+            self.handle, self.name = tempfile.mkstemp(
+                prefix=f".{os.path.basename(self.path)}.", dir=os.path.dirname(self.path) or "."
+            )
         except OSError as fault:
             raise Unable(f"{self.path}: {fault.strerror}", UNWRITTEN) from fault
 
@@ -377,7 +431,10 @@ class Output:
         try:
             self.handle = os.open(self.path, os.O_WRONLY)
         except OSError as fault:
-            raise Unable(f"{self.path}: {fault.strerror}", UNWRITTEN, ["-o takes the name of a file"] if os.path.isdir(self.path) else []) from fault
+            raise Unable(
+                f"{self.path}: {fault.strerror}", UNWRITTEN,
+                ["-o takes the name of a file"] if os.path.isdir(self.path) else [],
+            ) from fault
 
     def write(self, piece: bytes) -> None:
         while piece:

@@ -1,4 +1,5 @@
-"""`--json`: the answer of a command as one object for machines. docs/FRONT_END.md has its members. Of `update` and `apply` it is a line for each event."""
+"""`--json`: the answer of a command as one object for machines. docs/FRONT_END.md has its members. Of `update` and
+`apply` it is a line for each event."""
 from __future__ import annotations
 
 import io
@@ -31,7 +32,8 @@ ANSWERS_NO = {"links": "used"}
 
 
 def report(words: Sequence[str], answer: Callable[..., Any]) -> int:
-    """Does what the words say, and writes the answer as an object. `answer` does it otherwise, and returns the exit status."""
+    """Does what the words say, and writes the answer as an object. `answer` does it otherwise, and returns the exit
+    status."""
     others = [word for word in words if word != "--json"]
     name = next((word for word in others if not word.startswith("-")), "")
     if name in WITH_EVENTS and "--help" not in others:
@@ -66,7 +68,10 @@ def told(name: str, words: Sequence[str], answer: Callable[..., Any]) -> int:
     sys.stdout = io.StringIO()
     try:
         status = status_of(answer, words)
-        events.tell("end", command=name, status=status, verdict=answers.VERDICTS.get(status, "ended") if status != REFUSED else "stopped")
+        events.tell(
+            "end", command=name, status=status,
+            verdict=answers.VERDICTS.get(status, "ended") if status != REFUSED else "stopped",
+        )
         return status
     finally:
         sys.stdout, sys.stderr = output, error
@@ -103,7 +108,10 @@ class Held:
         sys.stderr.flush()
         for one, file in self.files.items():
             os.dup2(file.fileno(), one)
-        sys.stdout, sys.stderr = (open(one, "w", encoding="utf-8", errors=stream.errors, closefd=False) for one, stream in zip(self.files, self.streams))
+        sys.stdout, sys.stderr = (
+            open(one, "w", encoding="utf-8", errors=stream.errors, closefd=False)
+            for one, stream in zip(self.files, self.streams)
+        )
         return self
 
     def __exit__(self, *_: object | None) -> None:
@@ -157,28 +165,48 @@ class Report:
         for words, text, at in self.places:
             line, column = text.place(at)
             place = {"file": text.path, "line": line, "column": column, "member": member_at(text, at)}
-            if place not in found and any(words + "," in one or words + ":" in one or one.endswith(words) for one in texts):
+            if place not in found and any(
+                words + "," in one or words + ":" in one or one.endswith(words) for one in texts
+            ):
                 found.append(place)
-        return found or [place for file in (self.asking.files.values() if self.asking else ()) for place in line_place(file, texts[0])]
+        return found or [
+            place
+            for file in (self.asking.files.values() if self.asking else ())
+            for place in line_place(file, texts[0])
+        ]
 
     def values(self, status: int, output: str | None) -> dict[str, Any]:
         """The object."""
         reason, named = answers.reason_of(status, self.text) if self.asking else (None, None)
-        verdict = answers.verdict_of(self.name, status, self.text, self.said["warning"]) if self.asking else self.own_verdict(status)
+        verdict = (
+            answers.verdict_of(self.name, status, self.text, self.said["warning"])
+            if self.asking
+            else self.own_verdict(status)
+        )
         value = self.own_value(status)
         own = value if isinstance(value, dict) else NOTHING
         is_written = output is not None and status == 0
-        return {"format": FORMAT, "command": self.name, "status": status, "verdict": verdict, "reason": reason, "class": named, "paths": self.paths(status),
-                "places": [place for one in self.said["refusal"] for place in one["places"]], "warnings": self.said["warning"], "refusals": self.said["refusal"],
-                "notes": self.said["note"], "said": self.lines, "output": output if is_written else None,
-                "answer": None if is_written or own else value if value is not None else answers.value_of(self.name, status, self.text), **own}
+        return {
+            "format": FORMAT, "command": self.name, "status": status, "verdict": verdict, "reason": reason,
+            "class": named, "paths": self.paths(status),
+            "places": [place for one in self.said["refusal"] for place in one["places"]],
+            "warnings": self.said["warning"], "refusals": self.said["refusal"], "notes": self.said["note"],
+            "said": self.lines, "output": output if is_written else None,
+            "answer": None
+            if is_written or own
+            else value
+            if value is not None
+            else answers.value_of(self.name, status, self.text),
+            **own,
+        }
 
     def own_verdict(self, status: int) -> str:
         """The verdict of a command outside the proved program."""
         return ANSWERS_NO.get(self.name, "stopped") if status == REFUSED else answers.verdict_of("", status)
 
     def own_value(self, status: int) -> dict[str, Any] | list[dict[str, Any]] | None:
-        """What the command itself writes as JSON: an object, whose members stand beside the others, or a list, which is the answer; None where it is neither."""
+        """What the command itself writes as JSON: an object, whose members stand beside the others, or a list, which is
+        the answer; None where it is neither."""
         try:
             return json.loads(self.text) if status in (0, REFUSED) and self.name in WITH_OPTION else None
         except ValueError:
@@ -192,23 +220,35 @@ class Report:
         found = []
         for file, (entry, vlan, address), text in ways:
             stops, end = answers.stops_of(text)
-            found.append({"file": file, "from": entry, "vlan": answers.vlan_value(vlan), "address": address, "stops": stops, "end": end})
+            found.append(
+                {
+                    "file": file, "from": entry, "vlan": answers.vlan_value(vlan), "address": address, "stops": stops,
+                    "end": end,
+                }
+            )
         return found
 
 
 def line_place(file: Given, text: str) -> list[dict[str, Any]]:
     """The line of a file that a sentence begins with, as a list of at most one place."""
-    number = text[len(file.shown) + len(", line "):].partition(":")[0] if text.startswith(f"{file.shown}, line ") else ""
+    number = (
+        text[len(file.shown) + len(", line ") :].partition(":")[0] if text.startswith(f"{file.shown}, line ") else ""
+    )
     return [{"file": file.shown, "line": int(number), "column": None, "member": None}] if number.isdigit() else []
 
 
 def member_at(text: Json | Text, at: int) -> str | None:
-    """The member of a JSON file whose value, or name, begins at a character, as links[4][1]; None where there is none."""
+    """The member of a JSON file whose value, or name, begins at a character, as links[4][1]; None where there is
+    none."""
     if not isinstance(text, Json):
         return None
     value, way = text.root, []
     while value.start != at:
-        steps = [(name, start, one) for name, start, one in value.held] if value.kind == "object" else [(number, one.start, one) for number, one in enumerate(value.items())]
+        steps = (
+            [(name, start, one) for name, start, one in value.held]
+            if value.kind == "object"
+            else [(number, one.start, one) for number, one in enumerate(value.items())]
+        )
         inner = next(((step, start, one) for step, start, one in steps if start <= at < one.end), None)
         if inner is None:
             return None

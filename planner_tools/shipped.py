@@ -1,8 +1,10 @@
-"""The program that a checkout brings along: the folder dist/, with the built program and a text that says what it was built from.
+"""The program that a checkout brings along: the folder dist/, with the built program and a text that says what it was
+built from.
 
-It is run only where the files of the checkout are those that it was built from, which sums in the text tell. So that some ten megabytes aren't read at
-each command, what was found is remembered in dist/.seen, beside the sizes, times and numbers of all files that count. It holds as long as each of these
-is the same, and nothing is remembered of files of which one is younger than three seconds: such a one may change once more and look the same.
+It is run only where the files of the checkout are those that it was built from, which sums in the text tell. So that
+some ten megabytes aren't read at each command, what was found is remembered in dist/.seen, beside the sizes, times and
+numbers of all files that count. It holds as long as each of these is the same, and nothing is remembered of files of
+which one is younger than three seconds: such a one may change once more and look the same.
 """
 from __future__ import annotations
 
@@ -43,7 +45,8 @@ class Unfit(Exception):
 # ---- what the program is made from
 
 def read(root: pathlib.Path | str, path: str) -> bytes:
-    """The bytes of a file. A program that was taken apart in the meantime, or a file that can't be read, is none that fits."""
+    """The bytes of a file. A program that was taken apart in the meantime, or a file that can't be read, is none that
+    fits."""
     try:
         with open(os.path.join(root, path), "rb") as file:
             return file.read()
@@ -66,8 +69,13 @@ def listed(root: pathlib.Path | str) -> list[tuple[str, list[str]]]:
 
 
 def marks(root: pathlib.Path | str, crates: Sequence[tuple[str, list[str]]]) -> list[tuple[str, os.stat_result]]:
-    """The files of the crates, from the root on, each with what the system says of it, sorted. Those that editors keep, `.NAME` and `NAME~`, don't count."""
-    rows, folders = [], [folder for folder in (f"crates/{name}/{part}" for name, _ in crates for part in PARTS) if os.path.lexists(f"{root}/{folder}")]
+    """The files of the crates, from the root on, each with what the system says of it, sorted. Those that editors keep,
+    `.NAME` and `NAME~`, don't count."""
+    rows, folders = [], [
+        folder
+        for folder in (f"crates/{name}/{part}" for name, _ in crates for part in PARTS)
+        if os.path.lexists(f"{root}/{folder}")
+    ]
     while folders:
         folder = folders.pop()
         try:
@@ -86,7 +94,8 @@ def marks(root: pathlib.Path | str, crates: Sequence[tuple[str, list[str]]]) -> 
 
 
 def sum_of_sources(root: pathlib.Path | str, toolchain: str) -> str:
-    """The sum of all that the program is built from: the toolchain, the crates of the program and what they use, and each of their files."""
+    """The sum of all that the program is built from: the toolchain, the crates of the program and what they use, and
+    each of their files."""
     import hashlib
     crates = listed(root)
     whole = hashlib.sha256(f"{toolchain}\n".encode())
@@ -118,12 +127,18 @@ def said(root: str) -> dict[str, str]:
 def look(root: str) -> None:
     """Raises Unfit where the program isn't the one of the text, or the text isn't that of the files here."""
     about = said(root)
-    toolchains = [line.split(None, 1)[1].strip() for line in read(root, TOOLCHAINS).decode("ascii", "replace").splitlines() if line.startswith("rattle ")]
+    toolchains = [
+        line.split(None, 1)[1].strip()
+        for line in read(root, TOOLCHAINS).decode("ascii", "replace").splitlines()
+        if line.startswith("rattle ")
+    ]
     for name in NAMES:
         if name not in about:
             raise Unfit(f"{TEXT} has no line {name}")
     if about["toolchain"] not in toolchains:
-        raise Unfit(f"{TOOLCHAINS} doesn't name the toolchain that built the program of {FOLDER}/, {about['toolchain']}")
+        raise Unfit(
+            f"{TOOLCHAINS} doesn't name the toolchain that built the program of {FOLDER}/, {about['toolchain']}"
+        )
     if sum_of(read(root, PROGRAM)) != about["program"]:
         raise Unfit(f"{PROGRAM} isn't the program of which {TEXT} speaks")
     if sum_of_sources(root, about["toolchain"]) != about["sources"]:
@@ -164,7 +179,9 @@ def suits(root: str) -> None:
 def state(root: str) -> tuple[str, list[os.stat_result]]:
     """The sizes, times and numbers of all files that count, as text, and what the system says of each of them."""
     try:
-        rows = [(path, os.stat(os.path.join(root, path))) for path in (PROGRAM, TEXT, CRATES, HANDLES, TOOLCHAINS)] + marks(root, listed(root))
+        rows = [
+            (path, os.stat(os.path.join(root, path))) for path in (PROGRAM, TEXT, CRATES, HANDLES, TOOLCHAINS)
+        ] + marks(root, listed(root))
     except OSError as fault:
         raise Unfit(f"{fault.filename}: {fault.strerror}") from fault
     text = "".join(f"{path} {it.st_size} {it.st_mtime_ns} {it.st_ctime_ns} {it.st_ino}\n" for path, it in rows)
@@ -218,7 +235,8 @@ def judged(root: str) -> None:
 
 
 def why_not(root: str) -> str | None:
-    """None where the program of dist/ is to be run; otherwise why it isn't. It is looked at once in a run of the front end."""
+    """None where the program of dist/ is to be run; otherwise why it isn't. It is looked at once in a run of the front
+    end."""
     if root not in answers:
         try:
             if not os.path.exists(os.path.join(root, TEXT)):

@@ -1,7 +1,7 @@
 """`planner show`: a plan, a configuration, what differs between two, or a schedule in words, or as JSON for machines.
 
-What a file holds is what the program reads of it: a plan is read through `upgrade`, a configuration is looked at by `config`, a schedule is carried out
-by `replay`. Where the program refuses one, that is said, and nothing is shown.
+What a file holds is what the program reads of it: a plan is read through `upgrade`, a configuration is looked at by
+`config`, a schedule is carried out by `replay`. Where the program refuses one, that is said, and nothing is shown.
 """
 from __future__ import annotations
 
@@ -30,7 +30,8 @@ OTHER = "other configuration"
 
 
 def kind_of(path: str, shown: str | None = None) -> str:
-    """What a file holds, as far as its form tells: a topology, a plan, a configuration, or a schedule. `shown` is its name as it is told."""
+    """What a file holds, as far as its form tells: a topology, a plan, a configuration, or a schedule. `shown` is its
+    name as it is told."""
     shown = shown or path
     try:
         root = read_json(path).root
@@ -40,10 +41,14 @@ def kind_of(path: str, shown: str | None = None) -> str:
         if begins in (b"{", b"["):
             raise Unable(f"{shown}: it is no JSON that can be shown: {fault.what}", BAD_FILE) from fault
         return "schedule"
-    for member, kind in (("rounds", "plan"), ("switches", "topology"), ("rules", "configuration"), ("demands", "policy")):
+    for member, kind in (
+        ("rounds", "plan"), ("switches", "topology"), ("rules", "configuration"), ("demands", "policy"),
+    ):
         if root.member(member) is not None:
             return kind
-    raise Unable(f"{shown}: it is neither a plan nor a configuration", BAD_FILE, ["a plan has `rounds`, a configuration `rules`"])
+    raise Unable(
+        f"{shown}: it is neither a plan nor a configuration", BAD_FILE, ["a plan has `rounds`, a configuration `rules`"]
+    )
 
 
 def at_folder(folder: str, name: str) -> str:
@@ -67,27 +72,42 @@ class Shown:
             if kind == "configuration" and len(names) == 3 and kind in self.files:
                 kind = OTHER
             if kind in ("topology", "policy") or kind in self.files:
-                raise Unable(f"{shown}: a {kind} isn't shown" if kind not in self.files else f"{shown}: a {kind} stands among the words already", BAD_FILE,
-                           ["planner show TOPO [OLD] [PLAN] FILE"])
+                raise Unable(
+                    f"{shown}: a {kind} isn't shown"
+                    if kind not in self.files
+                    else f"{shown}: a {kind} stands among the words already",
+                    BAD_FILE, ["planner show TOPO [OLD] [PLAN] FILE"],
+                )
             self.files[kind] = name
-        self.topology, self.last = names[0], OTHER if OTHER in self.files else kind_of(names[-1], self.names.shown(names[-1]))
+        self.topology, self.last = names[0], OTHER if OTHER in self.files else kind_of(
+            names[-1], self.names.shown(names[-1])
+        )
 
     def unfolded(self, names: list[str]) -> list[str]:
         """The names, where a folder in place of the topology stands for the files of it that are left out."""
         folder = names[0]
         if not os.path.isdir(folder):
             if not os.path.exists(folder) and len(names) < 2:
-                raise Unable(f"{folder}: No such file or directory{like(folder)}", 2, ["a folder stands for the files that are left out", "planner show TOPO [OLD] [PLAN] FILE"])
+                raise Unable(
+                    f"{folder}: No such file or directory{like(folder)}", 2,
+                    ["a folder stands for the files that are left out", "planner show TOPO [OLD] [PLAN] FILE"],
+                )
             if len(names) < 2:
                 raise Unable("the file that is to be shown is missing", 2, ["planner show TOPO [OLD] [PLAN] FILE"])
             return names
-        inside = {kind: beside(folder, name) or joined(folder, name) for kind, name in (("topology", "topology.json"), ("configuration", "old.json"), ("plan", "plan.json"))}
+        inside = {
+            kind: beside(folder, name) or joined(folder, name)
+            for kind, name in (("topology", "topology.json"), ("configuration", "old.json"), ("plan", "plan.json"))
+        }
         for what, more in doubtful(folder, names[1:]):
             Voice().warn(what, more)
         given = [at_folder(folder, name) for name in names[1:]] or [inside["plan"]]
         before = {"plan": ["configuration"], "schedule": ["configuration", "plan"]}.get(self.kind_of(given[-1]), [])
         have = {self.kind_of(name) for name in given}
-        return [inside["topology"], *(inside[kind] for kind in before if kind not in have and os.path.isfile(inside[kind])), *given]
+        return [
+            inside["topology"], *(inside[kind] for kind in before if kind not in have and os.path.isfile(inside[kind])),
+            *given,
+        ]
 
     def kind_of(self, name: str) -> str:
         """What a file holds, or nothing where it isn't there."""
@@ -130,11 +150,19 @@ def plan_values(plan: dict[str, Any], rules: Sequence[dict[str, Any]], network: 
             before = tables.make(do, rule)
             counts[do] += 1
             tags |= {rule["set"]} if "set" in rule else set()
-            made.append({"do": do, "rule": rule, "before": before if do != "insert" else None, "to": next_of(rule, network),
-                         "was": next_of(before, network) if before is not None and do != "insert" else None})
+            made.append(
+                {
+                    "do": do, "rule": rule, "before": before if do != "insert" else None, "to": next_of(rule, network),
+                    "was": next_of(before, network) if before is not None and do != "insert" else None,
+                }
+            )
         rounds.append({"round": number, "changes": made})
-    return {"kind": plan["kind"], "rounds": rounds, "counts": counts, "switches": sorted({one["rule"]["switch"] for it in rounds for one in it["changes"]}),
-            "tags": sorted(tags), "labels": {str(vlan): user for table in plan.get("labels", []) for vlan, _, user in table if vlan in tags}, "wait": wait, "seconds": wait * len(rounds)}
+    return {
+        "kind": plan["kind"], "rounds": rounds, "counts": counts,
+        "switches": sorted({one["rule"]["switch"] for it in rounds for one in it["changes"]}), "tags": sorted(tags),
+        "labels": {str(vlan): user for table in plan.get("labels", []) for vlan, _, user in table if vlan in tags},
+        "wait": wait, "seconds": wait * len(rounds),
+    }
 
 
 def next_of(rule: dict[str, Any], network: Network) -> str | None:
@@ -147,17 +175,34 @@ def next_of(rule: dict[str, Any], network: Network) -> str | None:
 
 def change_line(change: dict[str, Any], network: Network, has_priority: bool) -> str:
     """A change in words, as `s1: 10.0.0.0/24 to s4 (port 4), was s2 (port 2)`."""
-    return f"{change['rule']['switch']}: {nets.change_words(change['do'], change['rule'], change['before'], network, has_priority)}"
+    return (
+        f"{change['rule']['switch']}:"
+        f" {nets.change_words(change['do'], change['rule'], change['before'], network, has_priority)}"
+    )
 
 
 def plan_lines(name: str, values: dict[str, Any], network: Network, rules: Sequence[dict[str, Any]]) -> list[str]:
     counts, rounds = values["counts"], values["rounds"]
     changes = sum(counts.values())
-    priorities = {one["rule"]["priority"] for it in rounds for one in it["changes"]} | {one["priority"] for one in rules or []}
-    lines = [f"{name}: {values['kind']}, {counted(len(rounds), 'round')}, {counted(changes, 'change')} at {counted(len(values['switches']), 'switch', 'switches')}: "
-             f"{counts['insert']} new, {counts['replace']} changed, {counts['delete']} deleted"]
-    lines += [f"tags: {', '.join(tag_words(tag, values['labels']) for tag in values['tags'])}"] if values["tags"] else ["no tags: packets keep the VLANs with which they come"] if values["kind"] == "ordered" else []
-    lines += [f"time: with a wait of {values['wait']:g} s before each round {duration(values['seconds'])}, and what the switches take"]
+    priorities = {one["rule"]["priority"] for it in rounds for one in it["changes"]} | {
+        one["priority"] for one in rules or []
+    }
+    lines = [
+        f"{name}: {values['kind']}, {counted(len(rounds), 'round')}, {counted(changes, 'change')} at"
+        f" {counted(len(values['switches']), 'switch', 'switches')}: {counts['insert']} new,"
+        f" {counts['replace']} changed, {counts['delete']} deleted"
+    ]
+    lines += (
+        [f"tags: {', '.join(tag_words(tag, values['labels']) for tag in values['tags'])}"]
+        if values["tags"]
+        else ["no tags: packets keep the VLANs with which they come"]
+        if values["kind"] == "ordered"
+        else []
+    )
+    lines += [
+        f"time: with a wait of {values['wait']:g} s before each round {duration(values['seconds'])}, and what the"
+        " switches take"
+    ]
     for it in rounds:
         lines += ["", f"round {it['round']}: {counted(len(it['changes']), 'change')}"]
         lines += ["  " + change_line(one, network, len(priorities) > 1) for one in it["changes"]]
@@ -167,14 +212,20 @@ def plan_lines(name: str, values: dict[str, Any], network: Network, rules: Seque
 def tag_words(tag: int, labels: dict[str, str]) -> str:
     """A tag, and which packets carry it."""
     user = labels.get(str(tag))
-    return f"{tag}" if user is None else f"{tag} for {'untagged packets' if user == 'untagged' else f'packets with VLAN {user}'}"
+    return (
+        f"{tag}"
+        if user is None
+        else f"{tag} for {'untagged packets' if user == 'untagged' else f'packets with VLAN {user}'}"
+    )
 
 
 def duration(seconds: float) -> str:
     if seconds < 120:
         return f"{seconds:g} s"
     minutes = round(seconds / 60)
-    return f"{seconds:g} s, about {minutes} minutes" if minutes < 120 else f"{seconds:g} s, about {minutes / 60:.1f} hours"
+    return (
+        f"{seconds:g} s, about {minutes} minutes" if minutes < 120 else f"{seconds:g} s, about {minutes / 60:.1f} hours"
+    )
 
 
 # ---- a configuration, a schedule
@@ -182,16 +233,27 @@ def duration(seconds: float) -> str:
 def configuration_values(rules: Sequence[dict[str, Any]], network: Network) -> dict[str, Any]:
     by_switch = []
     for name, capacity in zip(network.names, network.capacities):
-        mine = sorted((one for one in rules if one["switch"] == name), key=lambda one: (-one["priority"], nets.prefix(one["dst"]), str(one.get("in_port", ""))))
-        by_switch.append({"switch": name, "capacity": capacity, "rules": [{**one, "to": next_of(one, network)} for one in mine]})
+        mine = sorted(
+            (one for one in rules if one["switch"] == name),
+            key=lambda one: (-one["priority"], nets.prefix(one["dst"]), str(one.get("in_port", ""))),
+        )
+        by_switch.append(
+            {"switch": name, "capacity": capacity, "rules": [{**one, "to": next_of(one, network)} for one in mine]}
+        )
     return {"rules": len(rules), "switches": by_switch}
 
 
 def configuration_lines(name: str, values: dict[str, Any], network: Network) -> list[str]:
-    lines = [f"{name}: {counted(values['rules'], 'rule')} at {counted(sum(bool(one['rules']) for one in values['switches']), 'switch', 'switches')}"]
+    lines = [
+        f"{name}: {counted(values['rules'], 'rule')} at"
+        f" {counted(sum(bool(one['rules']) for one in values['switches']), 'switch', 'switches')}"
+    ]
     for one in values["switches"]:
         lines += ["", f"{one['switch']}: {len(one['rules'])} of {one['capacity']} entries"]
-        lines += [f"  {nets.match_words(rule)} {nets.action_words(rule, network)}, priority {rule['priority']}" for rule in one["rules"]]
+        lines += [
+            f"  {nets.match_words(rule)} {nets.action_words(rule, network)}, priority {rule['priority']}"
+            for rule in one["rules"]
+        ]
     return lines
 
 
@@ -204,7 +266,10 @@ def schedule_lines(shown: Shown, network: Network) -> list[str]:
     rules, plan = shown.rules(), shown.plan()
     if rules is None or plan is None:
         events = [line for line in text.splitlines() if line and not line.startswith("#")]
-        return [f"{name}: {counted(len(events), 'event')}; with OLD and PLAN before it, what each one does is shown", "", *events]
+        return [
+            f"{name}: {counted(len(events), 'event')}; with OLD and PLAN before it, what each one does is shown", "",
+            *events,
+        ]
     replay = shown.ask("replay", shown.topology, shown.files["configuration"], shown.files["plan"], path)
     rounds = story.Changes(plan)
     lines = story.events_in_words(text, network, rules, rounds, story.traces(replay))
@@ -212,11 +277,21 @@ def schedule_lines(shown: Shown, network: Network) -> list[str]:
 
 
 def parser_of() -> argparse.ArgumentParser:
-    parser = argparse.ArgumentParser(prog="planner show", description="Shows a plan, a configuration or a schedule in words.")
-    parser.add_argument("files", metavar="FILE", nargs="+", help="the topology, or a folder; and behind it the file that is shown: before a plan the old configuration, "
-                        "and before a schedule both, where they are there; of two configurations it is shown what differs")
+    parser = argparse.ArgumentParser(
+        prog="planner show", description="Shows a plan, a configuration or a schedule in words."
+    )
+    parser.add_argument(
+        "files", metavar="FILE", nargs="+",
+        help=(
+            "the topology, or a folder; and behind it the file that is shown: before a plan the old configuration, "
+            "and before a schedule both, where they are there; of two configurations it is shown what differs"
+        ),
+    )
     parser.add_argument("--json", action="store_true", help="writes JSON, for machines")
-    parser.add_argument("--wait", metavar="SECONDS", type=float, default=WAIT, help=f"the wait before each round, for the time that a plan takes ({WAIT:g} s)")
+    parser.add_argument(
+        "--wait", metavar="SECONDS", type=float, default=WAIT,
+        help=f"the wait before each round, for the time that a plan takes ({WAIT:g} s)",
+    )
     return parser
 
 

@@ -1,4 +1,5 @@
-"""Runs of a plan in words: what `explain` found, and why an event of a schedule can't happen. Where packets go is what `replay` of the program says."""
+"""Runs of a plan in words: what `explain` found, and why an event of a schedule can't happen. Where packets go is what
+`replay` of the program says."""
 from __future__ import annotations
 
 import re
@@ -86,7 +87,11 @@ class Story:
         tests = [(rule.get("in_port", "any"), rule.get("vlan", "any"), nets.span(rule["dst"])) for rule in held]
         for at, one in enumerate(held):
             for other in range(at):
-                if one["priority"] == held[other]["priority"] and tests[at] != tests[other] and overlap(tests[at], tests[other]):
+                if (
+                    one["priority"] == held[other]["priority"]
+                    and tests[at] != tests[other]
+                    and overlap(tests[at], tests[other])
+                ):
                     return [self.entry(held[other]), self.entry(one)]
         return []
 
@@ -96,8 +101,11 @@ class Story:
         new = {key_of(rule): rule for rule in self.new if rule["switch"] == switch}
         words = [f"it has no entry for {self.entry(new[key])}" for key in new if key not in last]
         words += [f"it still has {self.entry(last[key])}" for key in last if key not in new]
-        return words + [f"it has {self.entry(last[key])}, and wanted is {nets.action_words(new[key], self.network)}" for key in new
-                        if key in last and action_of(new[key]) != action_of(last[key])]
+        return words + [
+            f"it has {self.entry(last[key])}, and wanted is {nets.action_words(new[key], self.network)}"
+            for key in new
+            if key in last and action_of(new[key]) != action_of(last[key])
+        ]
 
 
 def action_of(rule: dict[str, Any]) -> tuple[int, None, bool]:
@@ -109,12 +117,19 @@ def replayed(explainer: Explainer, schedule: str) -> tuple[int, str]:
     with tempfile.NamedTemporaryFile("w", suffix=".schedule") as file:
         file.write(schedule)
         file.flush()
-        return explainer.run.ask("replay", explainer.run.files["TOPO"].real, explainer.run.files["OLD"].real, explainer.run.files["PLAN"].real, file.name)
+        return explainer.run.ask(
+            "replay", explainer.run.files["TOPO"].real, explainer.run.files["OLD"].real,
+            explainer.run.files["PLAN"].real, file.name,
+        )
 
 
 def traces(text: str) -> list[tuple[list[str], str, str, int]]:
     """The packets of an answer of `replay`: for each the stops, the word for its end, and what stands behind it."""
-    return [(found[6].split(), found[7], found[8].strip(), int(found[5])) for found in map(TRACE.fullmatch, text.splitlines()) if found]
+    return [
+        (found[6].split(), found[7], found[8].strip(), int(found[5]))
+        for found in map(TRACE.fullmatch, text.splitlines())
+        if found
+    ]
 
 
 def tell(explainer: Explainer) -> list[str]:
@@ -124,7 +139,9 @@ def tell(explainer: Explainer) -> list[str]:
     if status != 0 or net is None or old is None or plan is None:
         return []
     packets = traces(text)
-    lines = events_in_words(explainer.run.text, net, nets.plain(old.root)["rules"], Changes(nets.plain(plan.root)), packets)
+    lines = events_in_words(
+        explainer.run.text, net, nets.plain(old.root)["rules"], Changes(nets.plain(plan.root)), packets
+    )
     entry = re.findall(r"^enter (\S+) (\S+) (\S+)$", explainer.run.text, re.M)
     if packets and entry:
         if packets[0][1] in ("left", "dropped"):
@@ -133,7 +150,10 @@ def tell(explainer: Explainer) -> list[str]:
     return lines
 
 
-def events_in_words(schedule: str, net: Network, rules: Sequence[dict[str, Any]], changes: Changes, packets: Sequence[tuple[list[str], str, str, int]]) -> list[str]:
+def events_in_words(
+    schedule: str, net: Network, rules: Sequence[dict[str, Any]], changes: Changes,
+    packets: Sequence[tuple[list[str], str, str, int]],
+) -> list[str]:
     """The events of a schedule, a line each. `packets` are the traces of the packets."""
     tables, lines, round_, at, entered, headers = Tables(rules), [], 0, {}, 0, []
     for line in schedule.splitlines():
@@ -143,10 +163,15 @@ def events_in_words(schedule: str, net: Network, rules: Sequence[dict[str, Any]]
         if words[0] == "start":
             round_ += 1
             count = len(changes.rounds[round_ - 1])
-            lines.append(f"round {round_} starts: its {f'{count} changes' if count != 1 else 'change'} may be made at any time{', in any order' if count > 1 else ''}")
+            lines.append(
+                f"round {round_} starts: its {f'{count} changes' if count != 1 else 'change'} may be made at any"
+                f" time{', in any order' if count > 1 else ''}"
+            )
         elif words[0] == "change":
             do, rule = changes.rounds[round_ - 1][int(words[1])]
-            lines.append(f"change {words[1]}, at {rule['switch']}: {nets.change_words(do, rule, tables.make(do, rule), net)}")
+            lines.append(
+                f"change {words[1]}, at {rule['switch']}: {nets.change_words(do, rule, tables.make(do, rule), net)}"
+            )
         elif words[0] == "settle":
             lines.append(f"round {round_} is settled")
         elif words[0] == "enter":
@@ -161,23 +186,37 @@ def events_in_words(schedule: str, net: Network, rules: Sequence[dict[str, Any]]
 
 
 def is_sent_back(tables: Tables, stop: str, vlan: str, address: str) -> bool:
-    """Whether a packet meets a rule whose output is the port that it came in by. Where tags are set it isn't known which VLAN the packet has there."""
+    """Whether a packet meets a rule whose output is the port that it came in by. Where tags are set it isn't known
+    which VLAN the packet has there."""
     switch, _, number = stop.rpartition(":")
     port = int(number)
-    fitting = [rule for rule in tables.rules.values() if rule["switch"] == switch and rule.get("in_port", "any") in ("any", port)
-               and str(rule.get("vlan", "any")) in ("any", vlan) and nets.covers(rule["dst"], address)]
+    fitting = [
+        rule
+        for rule in tables.rules.values()
+        if rule["switch"] == switch
+        and rule.get("in_port", "any") in ("any", port)
+        and str(rule.get("vlan", "any")) in ("any", vlan)
+        and nets.covers(rule["dst"], address)
+    ]
     is_tagged = any("set" in rule or rule.get("strip") for rule in tables.rules.values())
     return bool(fitting) and not is_tagged and max(fitting, key=lambda rule: rule["priority"])["out"] == port
 
 
-def hop_words(number: int, packets: Sequence[tuple[list[str], str, str, int]], at: dict[int, int], tables: Tables, headers: Sequence[Sequence[str]]) -> str:
+def hop_words(
+    number: int, packets: Sequence[tuple[list[str], str, str, int]], at: dict[int, int], tables: Tables,
+    headers: Sequence[Sequence[str]],
+) -> str:
     """A hop of a packet, whose stops are known."""
     stops, end, where, _ = packets[number]
     here = stops[at[number]]
     at[number] += 1
     if at[number] == len(stops):
         back = f": {nets.BACK}" if end == "dropped" and is_sent_back(tables, here, *headers[number]) else ""
-        return f"packet {number} " + (f"leaves the network at {where}" if end == "left" else f"is dropped by {where or here.rpartition(':')[0]}{back}")
+        return f"packet {number} " + (
+            f"leaves the network at {where}"
+            if end == "left"
+            else f"is dropped by {where or here.rpartition(':')[0]}{back}"
+        )
     switch = stops[at[number]].rpartition(":")[0]
     been = [one.rpartition(":")[0] for one in stops[:at[number]]]
     again = ", where it has been before: it has come to a switch twice" if switch in been else ""
@@ -194,9 +233,17 @@ def why_no_run(explainer: Explainer) -> None:
     lines = Text(found.shown, read_bytes(found.real)).text.split("\n")
     line, before = lines[number - 1], "".join(f"{one}\n" for one in lines[:number - 1])
     why = (start_refused if name == "INPUT" else event_refused)(explainer, line, before)
-    explainer.voice.refuse(f"{found.shown}, line {number}: `{line}` can't happen here{': ' + why if why else ''}",
-                           ["the lines before it are a run: `replay` says how far it came" if name == "SCHEDULE" else
-                            "a line `start` may stand only where no round runs, one is left, and each switch with changes in it has said HELLO"])
+    explainer.voice.refuse(
+        f"{found.shown}, line {number}: `{line}` can't happen here{': ' + why if why else ''}",
+        [
+            "the lines before it are a run: `replay` says how far it came"
+            if name == "SCHEDULE"
+            else (
+                "a line `start` may stand only where no round runs, one is left, and each switch with changes in it has"
+                " said HELLO"
+            )
+        ],
+    )
 
 
 def event_refused(explainer: Explainer, line: str, before: str) -> str:
@@ -216,24 +263,41 @@ def event_refused(explainer: Explainer, line: str, before: str) -> str:
         if number == count:
             return f"all {count} rounds are settled"
         late = [str(one) for one, it in enumerate(packets) if it[1] == "under way" and it[3] < number]
-        return f"packet{'s' if len(late) > 1 else ''} {', '.join(late[:8])} entered before round {number} was settled, and {'are' if len(late) > 1 else 'is'} still under way"
+        return (
+            f"packet{'s' if len(late) > 1 else ''} {', '.join(late[:8])} entered before round {number} was settled, and"
+            f" {'are' if len(late) > 1 else 'is'} still under way"
+        )
     if words[0] == "change" and is_running:
         one = int(words[1])
         if one >= len(changes):
             return f"round {number} has {counted(len(changes), 'change')}, numbered from 0"
-        return "this change is made already" if one in made else f"it doesn't fit the table that {changes[one][1]['switch']} has then"
+        return (
+            "this change is made already"
+            if one in made
+            else f"it doesn't fit the table that {changes[one][1]['switch']} has then"
+        )
     if words[0] == "settle" and is_running:
         left = [str(one) for one in range(len(changes)) if one not in made]
-        return f"change{'s' if len(left) > 1 else ''} {', '.join(left[:8])} of round {number} {'are' if len(left) > 1 else 'is'} pending"
+        return (
+            f"change{'s' if len(left) > 1 else ''} {', '.join(left[:8])} of round"
+            f" {number} {'are' if len(left) > 1 else 'is'} pending"
+        )
     if words[0] in ("change", "settle"):
         return "no round is running"
     if words[0] == "enter":
         vlans = [str(one) for one in net.vlans]
-        return f"{words[1]} is no host port" if words[1] not in net.hosts else f"the VLAN {words[2]} isn't declared" if words[2] not in vlans else ""
+        return (
+            f"{words[1]} is no host port"
+            if words[1] not in net.hosts
+            else f"the VLAN {words[2]} isn't declared"
+            if words[2] not in vlans
+            else ""
+        )
     one = int(words[1])
     if one >= len(packets):
         return f"so far {counted(len(packets), 'packet')} entered, numbered from 0"
-    return f"packet {one} {'is lost' if packets[one][1] == 'lost' else 'has left' if packets[one][1] == 'left' else 'was dropped'} already"
+    how = {"lost": "is lost", "left": "has left"}.get(packets[one][1], "was dropped")
+    return f"packet {one} {how} already"
 
 
 def start_refused(explainer: Explainer, _: str, before: str) -> str:
@@ -257,5 +321,8 @@ def start_refused(explainer: Explainer, _: str, before: str) -> str:
     gone = [f"{name} ({cause})" for name, cause in failed if name in switches]
     if gone:
         return f"the session with {', '.join(gone)} has failed, and it has changes in round {int(state[2]) + 1}"
-    return f"{', '.join(hello or switches)} {'has' if len(hello or switches) == 1 else 'have'} changes in round {int(state[2]) + 1} and no open session: no HELLO came"
+    return (
+        f"{', '.join(hello or switches)} {'has' if len(hello or switches) == 1 else 'have'} changes in round"
+        f" {int(state[2]) + 1} and no open session: no HELLO came"
+    )
 

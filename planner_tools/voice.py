@@ -1,4 +1,5 @@
-"""What is said on the error stream: refusals, warnings and notes, in colour where it is a terminal; and lines on work that goes on."""
+"""What is said on the error stream: refusals, warnings and notes, in colour where it is a terminal; and lines on work
+that goes on."""
 from __future__ import annotations
 
 import os
@@ -22,13 +23,16 @@ def wrapped(text: str) -> list[str]:
     if len(text) <= WIDTH - 4 and not any(one.isspace() and one != " " for one in text):
         return ["    " + text.rstrip(" ")] if text.strip(" ") else [""]
     import textwrap
-    return textwrap.wrap(text, WIDTH, initial_indent="    ", subsequent_indent="      ", break_long_words=False, break_on_hyphens=False) or [""]
+    return textwrap.wrap(
+        text, WIDTH, initial_indent="    ", subsequent_indent="      ", break_long_words=False, break_on_hyphens=False
+    ) or [""]
 
 
 class Voice:
     """Says things on a stream, each with further lines below it. A quiet one says refusals alone."""
 
-    listener: Callable[[str, str, Sequence[str]], None] | None = None      # what is called in place of writing, where the answer is one for machines
+    # what is called in place of writing, where the answer is one for machines
+    listener: Callable[[str, str, Sequence[str]], None] | None = None
 
     def __init__(self, stream: TextIO | None = None, is_quiet: bool = False) -> None:
         self.stream, self.is_quiet = stream or sys.stderr, is_quiet
@@ -63,7 +67,8 @@ class Voice:
 
 
 class Telling:
-    """Lines on work that goes on. Where nobody hears them any more that is noted, and what is said from then on goes to the terminal, where there is one."""
+    """Lines on work that goes on. Where nobody hears them any more that is noted, and what is said from then on goes to
+    the terminal, where there is one."""
 
     def __init__(self) -> None:
         self.is_quiet = False        # whether only refusals are said, and questions

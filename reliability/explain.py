@@ -1,9 +1,10 @@
 #!/usr/bin/env python3
-"""Compares `explain` with every interleaving of the changes and hops of one packet, in small networks: for careless plans of the examples and of
-random networks of 3 to 5 switches, in which the rules that differ are changed in one to three rounds by chance. Where `explain` writes a run, the
-model (model.py, which shares no code with the program) has to carry it out, with a packet that breaks the policy by the last event and by none
-before; and the round and the class have to be the first in which the exploration finds such a packet. Where it says that every mixed walk is good,
-the exploration has to find none. Prints how many of each; the exit status is 1 where they differ.
+"""Compares `explain` with every interleaving of the changes and hops of one packet, in small networks: for careless
+plans of the examples and of random networks of 3 to 5 switches, in which the rules that differ are changed in one to
+three rounds by chance. Where `explain` writes a run, the model (model.py, which shares no code with the program) has to
+carry it out, with a packet that breaks the policy by the last event and by none before; and the round and the class
+have to be the first in which the exploration finds such a packet. Where it says that every mixed walk is good, the
+exploration has to find none. Prints how many of each; the exit status is 1 where they differ.
 
     PLANNER=.. reliability/explain.py [--networks N] [--seed N]"""
 import argparse
@@ -33,7 +34,10 @@ def careless(update, rng):
     cuts = sorted(rng.choices(range(len(changes) + 1), k=rng.randint(0, 2)))
     numbered = [[do, i] for i, (do, _) in enumerate(changes)]
     rounds = [numbered[begin:end] for begin, end in zip([0, *cuts], [*cuts, len(changes)])]
-    return {"format": 2, "kind": "ordered", "numberings": [], "befores": [], "uses": [], "picks": [], "rules": [rule for _, rule in changes], "rounds": rounds}
+    return {
+        "format": 2, "kind": "ordered", "numberings": [], "befores": [], "uses": [], "picks": [],
+        "rules": [rule for _, rule in changes], "rounds": rounds,
+    }
 
 
 def first_break(motion):
@@ -47,7 +51,8 @@ def first_break(motion):
 
 
 def shown_by(motion, events):
-    """The round and the class of a run that breaks by its last event and by none before; None where it is no such run."""
+    """The round and the class of a run that breaks by its last event and by none before; None where it is no such
+    run."""
     classes = motion.classes()
     entered = next(event for event in events if event.startswith("enter"))
     for number, one in enumerate(classes):
@@ -68,7 +73,9 @@ def shown_by(motion, events):
 def compare(program, chosen, folder):
     """Compares over all updates; answers whether something differs."""
     found = collections.Counter()
-    updates = [explore.example("square"), explore.example("detour")] + [explore.random_update(f"{chosen.seed} {i}") for i in range(chosen.networks)]
+    updates = [explore.example("square"), explore.example("detour")] + [
+        explore.random_update(f"{chosen.seed} {i}") for i in range(chosen.networks)
+    ]
     for i, update in enumerate(updates):
         rng = random.Random(f"{chosen.seed} {i} careless")
         plan = careless(update, rng)

@@ -1,15 +1,17 @@
 #!/usr/bin/env python3
-"""Explores every interleaving of the changes and hops of one packet, and of two, in small networks: for plans that `plan` wrote and `check`
-accepted, of the examples and of random networks of 3 to 5 switches; and looks for a packet that comes to a switch twice, leaves without its
-waypoints, is dropped though it must arrive, or under a two-phase plan goes a path that is neither the old nor the new one. The model is its own
-(model.py). Prints plans, states and counterexamples; the exit status is 1 where there is a counterexample.
+"""Explores every interleaving of the changes and hops of one packet, and of two, in small networks: for plans that
+`plan` wrote and `check` accepted, of the examples and of random networks of 3 to 5 switches; and looks for a packet
+that comes to a switch twice, leaves without its waypoints, is dropped though it must arrive, or under a two-phase plan
+goes a path that is neither the old nor the new one. The model is its own (model.py). Prints plans, states and
+counterexamples; the exit status is 1 where there is a counterexample.
 
     PLANNER=.. reliability/explore.py [--networks N] [--pairs N] [--seed N]
     PLANNER=.. reliability/explore.py --refused
 
-One packet of each class is tried alone, and --pairs (5) pairs of classes a plan, chosen by the seed. Plans with a round of more than 10 changes are
-left out. With --refused it takes plans with all changes in one round that `check` refuses for reason 7, and shows the first counterexample of the
-square network, as lines of a schedule; the exit status is 1 where that network has none."""
+One packet of each class is tried alone, and --pairs (5) pairs of classes a plan, chosen by the seed. Plans with a round
+of more than 10 changes are left out. With --refused it takes plans with all changes in one round that `check` refuses
+for reason 7, and shows the first counterexample of the square network, as lines of a schedule; the exit status is 1
+where that network has none."""
 import argparse
 import collections
 import itertools
@@ -31,7 +33,9 @@ def random_tree(rng, links, home):
     """A random tree over the links to a switch: the port of each other switch on its way there."""
     ways, inside = {}, [home]
     while True:
-        open_ends = [(mine, port) for (mine, port), (other, _) in links.items() if other in inside and mine not in inside]
+        open_ends = [
+            (mine, port) for (mine, port), (other, _) in links.items() if other in inside and mine not in inside
+        ]
         if not open_ends:
             return ways
         switch, port = rng.choice(sorted(open_ends))
@@ -48,8 +52,10 @@ def topology_of(rng, names, joined, hosts):
         return f"{switch}:{used[switch]}"
     links = [[port(one), port(other)] for one, other in joined]
     vlans = rng.choice([["untagged"], ["untagged"], ["untagged"], ["untagged", 10]])
-    return {"switches": [{"name": name, "capacity": 64} for name in names], "links": links, "hosts": [port(switch) for switch in hosts],
-            "vlans": vlans, "tags": [3000, 3009]}
+    return {
+        "switches": [{"name": name, "capacity": 64} for name in names], "links": links,
+        "hosts": [port(switch) for switch in hosts], "vlans": vlans, "tags": [3000, 3009],
+    }
 
 
 def rules_of(ways, dst, priority):
@@ -61,7 +67,8 @@ def demand(rng, host, dst, through):
 
 
 def random_trees(rng):
-    """An update of one or two destinations, each along one tree before and another after; the demands are met by both."""
+    """An update of one or two destinations, each along one tree before and another after; the demands are met by
+    both."""
     names = [f"s{i}" for i in range(rng.randint(3, 5))]
     joined = [(rng.choice(names[:i]), names[i]) for i in range(1, len(names))]
     joined += rng.choices(list(itertools.combinations(names, 2)), k=rng.randint(1, 4))
@@ -86,7 +93,8 @@ def random_trees(rng):
 
 
 def random_detour(rng):
-    """An update after which packets pass the inner switches of their path in the opposite order, and have to pass each of them, or one."""
+    """An update after which packets pass the inner switches of their path in the opposite order, and have to pass each
+    of them, or one."""
     names = [f"s{i}" for i in range(rng.randint(4, 5))]
     walks = [names, [names[0], *names[-2:0:-1], names[-1]]]
     joined = sorted({tuple(sorted(pair)) for walk in walks for pair in zip(walk, walk[1:])})
@@ -94,7 +102,10 @@ def random_detour(rng):
     network = model.Network.read(topology)
     configs = []
     for walk in walks:
-        ways = {one: next(port for (at, port), end in network.ends.items() if at == one and end[0] == other) for one, other in zip(walk, walk[1:])}
+        ways = {
+            one: next(port for (at, port), end in network.ends.items() if at == one and end[0] == other)
+            for one, other in zip(walk, walk[1:])
+        }
         ways[names[-1]] = dict(network.hosts)[names[-1]]
         configs.append({"rules": rules_of(ways, "10.0.0.0/24", 100)})
     inner = names[1:-1] if rng.random() < 0.5 else names[2:3]
@@ -143,8 +154,10 @@ class Planner:
 def at_once(plan, update):
     """The plan with all changes in one round, and with evidence that names a numbering for every class."""
     switches = len(update["topology"]["switches"])
-    return plan | {"rounds": [[change for round_ in plan["rounds"] for change in round_]], "befores": [], "numberings": [list(range(switches, 0, -1))],
-                   "uses": [[0, []]], "picks": [[1, i, 0] for i in range(8192)]}
+    return plan | {
+        "rounds": [[change for round_ in plan["rounds"] for change in round_]], "befores": [],
+        "numberings": [list(range(switches, 0, -1))], "uses": [[0, []]], "picks": [[1, i, 0] for i in range(8192)],
+    }
 
 
 def explore(update, plan, rng, pairs):
@@ -169,7 +182,9 @@ def show(run, breaks):
 def accepted(program, chosen, folder):
     """Explores accepted plans; answers whether there is a counterexample."""
     found = collections.Counter()
-    updates = [example("square"), example("detour")] + [random_update(f"{chosen.seed} {i}") for i in range(chosen.networks)]
+    updates = [example("square"), example("detour")] + [
+        random_update(f"{chosen.seed} {i}") for i in range(chosen.networks)
+    ]
     for i, update in enumerate(updates):
         planner = Planner(program, folder, update)
         plan = planner.plan()
@@ -184,7 +199,12 @@ def accepted(program, chosen, folder):
             found["left out"] += 1
             continue
         states, two, wrong = explore(update, plan, random.Random(f"{chosen.seed} {i} pairs"), chosen.pairs)
-        found.update({plan["kind"]: 1, "plans": 1, "rounds": len(plan["rounds"]), "states": states, "pairs": two, "wrong": len(wrong)})
+        found.update(
+            {
+                plan["kind"]: 1, "plans": 1, "rounds": len(plan["rounds"]), "states": states, "pairs": two,
+                "wrong": len(wrong),
+            }
+        )
         if wrong:
             print(f"update {i}, {plan['kind']}: {len(wrong)} counterexamples")
             show(*wrong[0])
@@ -195,12 +215,16 @@ def accepted(program, chosen, folder):
 
 
 def summary(found):
-    return (f"{found['plans']} plans ({found['ordered']} ordered, {found['two-phase']} two-phase, {found['rounds']} rounds), {found['without a plan']} updates "
-            f"without a plan, {found['left out']} left out, {found['pairs']} pairs of packets, {found['states']} states, {found['wrong']} counterexamples")
+    return (
+        f"{found['plans']} plans ({found['ordered']} ordered, {found['two-phase']} two-phase,"
+        f" {found['rounds']} rounds), {found['without a plan']} updates without a plan, {found['left out']} left out,"
+        f" {found['pairs']} pairs of packets, {found['states']} states, {found['wrong']} counterexamples"
+    )
 
 
 def refused(program, chosen, folder):
-    """Explores plans that are refused for reason 7; answers whether the one of the square network has no counterexample."""
+    """Explores plans that are refused for reason 7; answers whether the one of the square network has no
+    counterexample."""
     square = example("square")
     tried = [(square, json.loads((runs.ROOT / "examples" / "square" / "plan-at-once.json").read_text()))]
     for i in range(chosen.networks):

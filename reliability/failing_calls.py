@@ -1,8 +1,9 @@
 #!/usr/bin/env python3
-"""Runs each command over the example files with one call of the system failing: the first opening of a file, the second, and so on until a run
-meets none; then each read and each write. A run in which an opening or a read fails has to end with status 6 and nothing written, one in which a
-write fails with status 7 and a front of the text, or either with the answer of a run in which nothing fails. Writes are tried also where each of
-them takes one byte only, so that the front is one of every length. Prints what it found; the exit status is 1 where a run ended otherwise.
+"""Runs each command over the example files with one call of the system failing: the first opening of a file, the
+second, and so on until a run meets none; then each read and each write. A run in which an opening or a read fails has
+to end with status 6 and nothing written, one in which a write fails with status 7 and a front of the text, or either
+with the answer of a run in which nothing fails. Writes are tried also where each of them takes one byte only, so that
+the front is one of every length. Prints what it found; the exit status is 1 where a run ended otherwise.
 
     PLANNER=.. reliability/failing_calls.py"""
 import collections
@@ -14,8 +15,10 @@ import tempfile
 import runs
 
 # What fails, whether all later calls fail too, and whether each write takes one byte only.
-WAYS = [("open", False, False), ("open", True, False), ("read", False, False), ("read", True, False), ("write", False, False),
-        ("write", True, True)]
+WAYS = [
+    ("open", False, False), ("open", True, False), ("read", False, False), ("read", True, False),
+    ("write", False, False), ("write", True, True),
+]
 
 
 def kind_of(what, ample, answer):
@@ -24,7 +27,12 @@ def kind_of(what, ample, answer):
         return "answered"
     if what != "write" and answer == runs.Answer(runs.READING_FAILED, b""):
         return "unread"
-    if what == "write" and answer.status == runs.WRITING_FAILED and not answer.errors and ample.text.startswith(answer.text):
+    if (
+        what == "write"
+        and answer.status == runs.WRITING_FAILED
+        and not answer.errors
+        and ample.text.startswith(answer.text)
+    ):
         return "front"
     return "changed"
 
@@ -55,8 +63,14 @@ def attack(program, commands, folder):
             found += fail_each(program, words, folder, library, way)
         what, stay, short = way
         title = f"{what} fails{', all later ones too' if stay else ''}{', each takes one byte' if short else ''}"
-        print(f"{title}: {found['runs']} runs, {found['unread']} status 6 and nothing written, {found['front']} status 7 and a front of the text, "
-              f"{found['answered']} with the answer; answers changed {found['changed']}", flush=True)
+        print(
+            (
+                f"{title}: {found['runs']} runs, {found['unread']} status 6 and nothing written,"
+                f" {found['front']} status 7 and a front of the text, {found['answered']} with the answer; answers"
+                f" changed {found['changed']}"
+            ),
+            flush=True,
+        )
         total += found
     print(f"all: {total['runs']} runs, answers changed {total['changed']}", flush=True)
     return total

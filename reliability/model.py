@@ -1,5 +1,5 @@
-"""A model of networks, tables, rounds and packets for `explore.py`, written after docs/MODEL.md and docs/FORMATS.md. It shares no code with the
-program, and looks at no evidence of a plan."""
+"""A model of networks, tables, rounds and packets for `explore.py`, written after docs/MODEL.md and docs/FORMATS.md. It
+shares no code with the program, and looks at no evidence of a plan."""
 import dataclasses
 import functools
 import ipaddress
@@ -10,8 +10,8 @@ HOST = "host"
 
 @dataclasses.dataclass(frozen=True)
 class Rule:
-    """An entry of a table. In `in_port` and `vlan` None is any; `out` None drops; `set_to` is the VLAN that is set before sending, UNTAGGED where the
-    tag is stripped, None where the packet keeps its VLAN."""
+    """An entry of a table. In `in_port` and `vlan` None is any; `out` None drops; `set_to` is the VLAN that is set
+    before sending, UNTAGGED where the tag is stripped, None where the packet keeps its VLAN."""
     priority: int
     in_port: int | None
     vlan: int | None
@@ -64,7 +64,10 @@ class Network:
         ends = {port_in(host): HOST for host in topology["hosts"]}
         for one, other in topology["links"]:
             ends[port_in(one)], ends[port_in(other)] = port_in(other), port_in(one)
-        return Network([s["name"] for s in topology["switches"]], ends, [port_in(h) for h in topology["hosts"]], [vlan_in(v) for v in topology["vlans"]])
+        return Network(
+            [s["name"] for s in topology["switches"]], ends, [port_in(h) for h in topology["hosts"]],
+            [vlan_in(v) for v in topology["vlans"]],
+        )
 
 
 def tables_in(network, config):
@@ -80,13 +83,15 @@ def applied(table, change):
     """The table after a change, which has to apply to it."""
     do, rule = change
     present = table.get(rule.key)
-    assert (present is None) if do == "insert" else (present == rule) if do == "delete" else (present is not None), "the change doesn't apply"
+    assert (
+        (present is None) if do == "insert" else (present == rule) if do == "delete" else (present is not None)
+    ), "the change doesn't apply"
     return {key: kept for key, kept in table.items() if key != rule.key} | ({} if do == "delete" else {rule.key: rule})
 
 
 def outcomes(network, table, switch, port, vlan, address):
-    """All outcomes of a packet at a switch: ("drop",), ("leave", port, VLAN) or ("go", switch, port, VLAN). There are several only where rules of
-    one priority cover the packet."""
+    """All outcomes of a packet at a switch: ("drop",), ("leave", port, VLAN) or ("go", switch, port, VLAN). There are
+    several only where rules of one priority cover the packet."""
     covering = [rule for rule in table.values() if rule.covers(port, vlan, address)]
     if not covering:
         return {("drop",)}
@@ -128,7 +133,9 @@ class Duties:
         self.chains, self.deliver = [], False
         for demand in demands:
             first, last = bounds(demand["dst"])
-            here = demand.get("from", "any") in ("any", f"{switch}:{port}") and vlan_in(demand.get("vlan", "any")) in (None, vlan)
+            here = demand.get("from", "any") in ("any", f"{switch}:{port}") and vlan_in(demand.get("vlan", "any")) in (
+                None, vlan,
+            )
             if here and first <= address <= last:
                 self.chains.append(list(dict.fromkeys(demand.get("through", []))))
                 self.deliver = self.deliver or demand.get("deliver", False)
@@ -143,7 +150,8 @@ class Duties:
 
 @dataclasses.dataclass(frozen=True)
 class Packet:
-    """A packet under way: how many rounds were settled when it entered, where it is, and where it was, this place included."""
+    """A packet under way: how many rounds were settled when it entered, where it is, and where it was, this place
+    included."""
     born: int
     switch: str
     port: int
@@ -156,8 +164,8 @@ IDLE = -1
 
 
 class Update:
-    """An update in motion. A state is the number of settled rounds, the changes of the running round that are made, as bits (IDLE where none runs),
-    and the packets: WAITS, a Packet, or GONE."""
+    """An update in motion. A state is the number of settled rounds, the changes of the running round that are made, as
+    bits (IDLE where none runs), and the packets: WAITS, a Packet, or GONE."""
 
     def __init__(self, topology, old, new, policy, plan):
         self.network = Network.read(topology)
@@ -182,8 +190,17 @@ class Update:
 
     def classes(self):
         """An entry and an address for each class of packets: addresses that all prefixes tell apart from others."""
-        firsts = {0} | {bounds(p)[0] for p in self.prefixes} | {bounds(p)[1] + 1 for p in self.prefixes if bounds(p)[1] + 1 < 1 << 32}
-        return [((switch, port, vlan), address) for switch, port in self.network.hosts for vlan in self.network.vlans for address in sorted(firsts)]
+        firsts = (
+            {0}
+            | {bounds(p)[0] for p in self.prefixes}
+            | {bounds(p)[1] + 1 for p in self.prefixes if bounds(p)[1] + 1 < 1 << 32}
+        )
+        return [
+            ((switch, port, vlan), address)
+            for switch, port in self.network.hosts
+            for vlan in self.network.vlans
+            for address in sorted(firsts)
+        ]
 
     def steps(self, settled, bits, packet, address):
         """What may become of a packet by one lookup."""
@@ -198,8 +215,8 @@ class Update:
         return self.seen[asked]
 
     def explore(self, classes):
-        """Goes through every state with one packet of each of these classes. Answers how many states there are, and the runs, as lists of events,
-        that end with a packet that breaks the sentence, each with what is wrong."""
+        """Goes through every state with one packet of each of these classes. Answers how many states there are, and the
+        runs, as lists of events, that end with a packet that breaks the sentence, each with what is wrong."""
         duties = [Duties(self.demands, entry, address) for entry, address in classes]
         allowed = [(path(self.network, self.old, *c), path(self.network, self.new, *c)) for c in classes]
         begin = (0, IDLE, (WAITS,) * len(classes))
@@ -222,7 +239,8 @@ class Update:
         return events[::-1]
 
     def successors(self, state, classes, duties, allowed):
-        """The events that may happen, each with the state after it and what is wrong with the packet that moved, or None."""
+        """The events that may happen, each with the state after it and what is wrong with the packet that moved, or
+        None."""
         settled, bits, packets = state
         if bits == IDLE:
             if settled < len(self.rounds) and all(p in (WAITS, GONE) or p.born == settled for p in packets):
@@ -247,7 +265,9 @@ class Update:
             for end in self.steps(settled, bits, packet, classes[i][1]):
                 if end[0] != "go":
                     mixed = self.two_phase and (packet.stops, end) not in allowed[i]
-                    yield f"hop {i}", put(GONE), duties[i].broken_by(packet.stops, end) or ("mixed path" if mixed else None)
+                    yield f"hop {i}", put(GONE), duties[i].broken_by(packet.stops, end) or (
+                        "mixed path" if mixed else None
+                    )
                 elif end[1] in [switch for switch, _ in packet.stops]:
                     yield f"hop {i}", put(GONE), f"came to {end[1]} again"
                 else:

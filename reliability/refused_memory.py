@@ -1,7 +1,8 @@
 #!/usr/bin/env python3
-"""Runs each command over the example files with one allocation refused: the first, the second, and so on until a run meets none; each time
-once with that allocation alone refused, and once with all later ones refused too. A run has to end with status 9 and nothing written, or with
-the answer of a run in which nothing is refused. Prints what it found; the exit status is 1 where a run ended otherwise.
+"""Runs each command over the example files with one allocation refused: the first, the second, and so on until a run
+meets none; each time once with that allocation alone refused, and once with all later ones refused too. A run has to
+end with status 9 and nothing written, or with the answer of a run in which nothing is refused. Prints what it found;
+the exit status is 1 where a run ended otherwise.
 
     PLANNER=.. reliability/refused_memory.py [--every N] [--workers N]
 
@@ -35,7 +36,8 @@ def kind_of(ample, answer):
 
 
 def refuse_each(program, words, folder, library, every):
-    """All runs of one command: how many of each kind, the bytes written too many, and the last allocation that was refused."""
+    """All runs of one command: how many of each kind, the bytes written too many, and the last allocation that was
+    refused."""
     ample = runs.plain_run(program, words, folder)
     found = collections.Counter()
     for at in places(every):
@@ -54,8 +56,10 @@ def refuse_each(program, words, folder, library, every):
 
 
 def line(title, found):
-    return (f"{title}: {found['runs']} runs, {found['wanting']} status 9 and nothing written, {found['answered']} with the answer; "
-            f"answers changed {found['changed']}, bytes written too many {found['bytes']}")
+    return (
+        f"{title}: {found['runs']} runs, {found['wanting']} status 9 and nothing written, {found['answered']} with the"
+        f" answer; answers changed {found['changed']}, bytes written too many {found['bytes']}"
+    )
 
 
 def attack(program, commands, folder, every, workers):

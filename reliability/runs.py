@@ -1,4 +1,5 @@
-"""What the scripts of this folder share: the program, the commands over the example files, and a run of the program with one call refused."""
+"""What the scripts of this folder share: the program, the commands over the example files, and a run of the program
+with one call refused."""
 import dataclasses
 import os
 import pathlib
@@ -28,7 +29,8 @@ class Answer:
 
 
 def program():
-    """The built program: that of the variable PLANNER, or the repository's own, which is built where that of dist/ can't be run."""
+    """The built program: that of the variable PLANNER, or the repository's own, which is built where that of dist/
+    can't be run."""
     named = os.environ.get("PLANNER")
     if named:
         return str(pathlib.Path(named).resolve())
@@ -45,7 +47,9 @@ def example_folder(folder):
 
 
 def update(name, *more):
-    return [f"{name}/{file}" for file in ("topology.json", "old.json", "new.json", "policy.json")] + [f"{name}/{file}" for file in more]
+    return [f"{name}/{file}" for file in ("topology.json", "old.json", "new.json", "policy.json")] + [
+        f"{name}/{file}" for file in more
+    ]
 
 
 def example_commands():
@@ -98,15 +102,21 @@ def library(folder):
 
 def plain_run(program_path, words, folder):
     """A run in which nothing is refused."""
-    done = subprocess.run([program_path, *words], cwd=folder, stdin=subprocess.DEVNULL, stdout=subprocess.PIPE, stderr=subprocess.PIPE)
+    done = subprocess.run(
+        [program_path, *words], cwd=folder, stdin=subprocess.DEVNULL, stdout=subprocess.PIPE, stderr=subprocess.PIPE
+    )
     return Answer(done.returncode, done.stdout, done.stderr)
 
 
 def refused_run(program_path, words, folder, library_path, what, at, stay=False, short=False):
     """A run in which call number `at` of a kind fails; answers how it ended, and whether it came to that call."""
     with tempfile.TemporaryFile() as report:
-        variables = {"LD_PRELOAD": library_path, "REFUSE_WHAT": what, "REFUSE_AT": str(at), "REFUSE_STAY": str(int(stay)),
-                     "REFUSE_SHORT": str(int(short)), "REFUSE_REPORT": str(report.fileno())}
-        done = subprocess.run([program_path, *words], cwd=folder, env=variables, pass_fds=[report.fileno()], stdin=subprocess.DEVNULL,
-                              stdout=subprocess.PIPE, stderr=subprocess.PIPE)
+        variables = {
+            "LD_PRELOAD": library_path, "REFUSE_WHAT": what, "REFUSE_AT": str(at), "REFUSE_STAY": str(int(stay)),
+            "REFUSE_SHORT": str(int(short)), "REFUSE_REPORT": str(report.fileno()),
+        }
+        done = subprocess.run(
+            [program_path, *words], cwd=folder, env=variables, pass_fds=[report.fileno()], stdin=subprocess.DEVNULL,
+            stdout=subprocess.PIPE, stderr=subprocess.PIPE,
+        )
         return Answer(done.returncode, done.stdout, done.stderr), os.fstat(report.fileno()).st_size > 0

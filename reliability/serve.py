@@ -34,7 +34,8 @@ NO_SERVE = "the program has no `serve` yet: it was compared with `drive` alone"
 # ---- made-up switches
 
 class Switches:
-    """What switches will say, as bytes that are still to be fed, by what was sent to them. `faults` is how often they do something wrong."""
+    """What switches will say, as bytes that are still to be fed, by what was sent to them. `faults` is how often they
+    do something wrong."""
 
     def __init__(self, rng, names, faults):
         self.rng, self.faults = rng, faults
@@ -51,7 +52,12 @@ class Switches:
         if rng.random() < self.faults:
             return self.wrong(xid)
         if kind == model.HELLO:
-            return self.chatter() + rng.choice([model.HELLO_BYTES, bytes([rng.randint(1, 6), 0, 0, 16]) + rng.randbytes(12)]) if rng.random() < 0.1 else model.HELLO_BYTES
+            return (
+                self.chatter()
+                + rng.choice([model.HELLO_BYTES, bytes([rng.randint(1, 6), 0, 0, 16]) + rng.randbytes(12)])
+                if rng.random() < 0.1
+                else model.HELLO_BYTES
+            )
         return self.chatter() + (model.message(model.BARRIER_REPLY, xid) if kind == model.BARRIER_REQUEST else b"")
 
     def chatter(self):
@@ -59,7 +65,10 @@ class Switches:
         rng = self.rng
         if rng.random() > 0.1:
             return b""
-        return model.message(rng.choice([model.ECHO_REQUEST, model.ECHO_REQUEST, 3, 6, 10, 12, 17, 255]), rng.getrandbits(32), rng.randbytes(rng.choice([0, 0, 1, 4, 90])))
+        return model.message(
+            rng.choice([model.ECHO_REQUEST, model.ECHO_REQUEST, 3, 6, 10, 12, 17, 255]), rng.getrandbits(32),
+            rng.randbytes(rng.choice([0, 0, 1, 4, 90])),
+        )
 
     def wrong(self, xid):
         rng = self.rng
@@ -75,8 +84,8 @@ class Switches:
 
 
 class Lines:
-    """Random lines, each by what the model has said of those before. `restless` is how often one is to be none of `drive`: at 0.4 most rounds are turned, and
-    sessions begin anew while answers of both ways are due."""
+    """Random lines, each by what the model has said of those before. `restless` is how often one is to be none of
+    `drive`: at 0.4 most rounds are turned, and sessions begin anew while answers of both ways are due."""
 
     def __init__(self, rng, update, plan, is_driven, restless=RESTLESS):
         self.rng, self.is_driven, self.restless = rng, is_driven, restless
@@ -127,14 +136,25 @@ class Lines:
         return f"reopen {self.rng.choice(self.names)}".encode()
 
     def comment(self):
-        return self.rng.choice([b"", b"#", b"# start", b"#" + bytes(self.rng.choice([b for b in range(256) if b != 10]) for _ in range(9)),
-                                b"#" * self.rng.choice([262144, 262145])])
+        return self.rng.choice(
+            [
+                b"", b"#", b"# start",
+                b"#" + bytes(self.rng.choice([b for b in range(256) if b != 10]) for _ in range(9)),
+                b"#" * self.rng.choice([262144, 262145]),
+            ]
+        )
 
     def bad(self):
         name = self.rng.choice(self.names)
-        return self.rng.choice([b" ", b"start ", b"Start", b"back 1", b"stop", b"feed", f"feed {name}".encode(), f"feed {name} ".encode(), f"feed {name} 0".encode(),
-                                f"feed {name} 0g".encode(), f"feed  {name} 00".encode(), f"feed {name} 00 ".encode(), b"feed nobody 00", b"reopen", b"reopen nobody",
-                                f"reopen {name} ".encode(), b"start\r", b"\xff\xfe", f"feed {name} {'00' * 131072}".encode()])
+        return self.rng.choice(
+            [
+                b" ", b"start ", b"Start", b"back 1", b"stop", b"feed", f"feed {name}".encode(),
+                f"feed {name} ".encode(), f"feed {name} 0".encode(), f"feed {name} 0g".encode(),
+                f"feed  {name} 00".encode(), f"feed {name} 00 ".encode(), b"feed nobody 00", b"reopen",
+                b"reopen nobody", f"reopen {name} ".encode(), b"start\r", b"\xff\xfe",
+                f"feed {name} {'00' * 131072}".encode(),
+            ]
+        )
 
 
 # ---- the program
@@ -154,12 +174,19 @@ class Program:
 
     def has_serve(self):
         words = [self.program, "serve", *self.words]
-        done = subprocess.run(words, cwd=self.folder, stdin=subprocess.DEVNULL, stdout=subprocess.DEVNULL, stderr=subprocess.DEVNULL, check=False)
+        done = subprocess.run(
+            words, cwd=self.folder, stdin=subprocess.DEVNULL, stdout=subprocess.DEVNULL, stderr=subprocess.DEVNULL,
+            check=False,
+        )
         return done.returncode != WRONG_WORDS
 
     def serve(self, lines):
-        """The blocks, each read whole before the next line is written; then the status, and what was written beyond the blocks."""
-        with subprocess.Popen([self.program, "serve", *self.words], cwd=self.folder, stdin=subprocess.PIPE, stdout=subprocess.PIPE, bufsize=0) as run:
+        """The blocks, each read whole before the next line is written; then the status, and what was written beyond the
+        blocks."""
+        with subprocess.Popen(
+            [self.program, "serve", *self.words], cwd=self.folder, stdin=subprocess.PIPE, stdout=subprocess.PIPE,
+            bufsize=0,
+        ) as run:
             said = Said(run.stdout.fileno())
             blocks = [said.block()]
             try:
@@ -167,7 +194,8 @@ class Program:
                     if not is_whole(blocks[-1]):
                         return blocks, "a block doesn't come to its end", b""
                     is_last = number == len(lines) - 1
-                    send(run.stdin, line if is_last and line else line + b"\n")         # the last one lacks its line end, where it isn't empty
+                    # the last one lacks its line end, where it isn't empty
+                    send(run.stdin, line if is_last and line else line + b"\n")
                     if is_last:
                         run.stdin.close()
                     blocks.append(said.block())
@@ -218,7 +246,8 @@ class Said:
 
 
 def report_of(made):
-    """What `drive` has to say of lines of `start` and `feed`: from the blocks, of which each tells what is sent in it."""
+    """What `drive` has to say of lines of `start` and `feed`: from the blocks, of which each tells what is sent in
+    it."""
     sent, failed, events = dict.fromkeys(made.names, ""), {}, []
     for line in (line for block in made.blocks for line in block[:-1]):
         words = line.split(" ")
@@ -228,7 +257,9 @@ def report_of(made):
             failed[words[1]] = line
         else:
             events.append(line)
-    lines = [f"# sent {name} {sent[name]}" for name in made.names] + [f"# {failed[name]}" for name in made.names if name in failed]
+    lines = [f"# sent {name} {sent[name]}" for name in made.names] + [
+        f"# {failed[name]}" for name in made.names if name in failed
+    ]
     return "".join(f"{line}\n" for line in [*lines, *events, f"# {made.blocks[-1][-1].removeprefix('ok ')}"])
 
 
@@ -276,7 +307,9 @@ def compare(program_path, chosen, folder):
             rng = random.Random(f"{chosen.seed} {name} {i}")
             made = Lines(rng, update, plan, True).go_on(rng.randint(1, chosen.lines))
             said = program.drive(made.lines)
-            found.update({"lists for drive": 1, "lines for drive": len(made.lines), "events of drive": len(made.serve.events)})
+            found.update(
+                {"lists for drive": 1, "lines for drive": len(made.lines), "events of drive": len(made.serve.events)}
+            )
             if said != (0, report_of(made)):
                 found["differences"] += 1
                 print(f"{name}, list {i}: drive says (status {said[0]})\n{said[1]}the model\n{report_of(made)}")
@@ -284,12 +317,20 @@ def compare(program_path, chosen, folder):
                 continue
             made = Lines(rng, update, plan, False, chosen.restless).go_on(rng.randint(0, chosen.lines))
             fault = differing(made, program.serve(made.lines))
-            found.update({"lists for serve": 1, "lines for serve": len(made.lines), "events of serve": len(made.serve.events),
-                          "lines that serve can't follow": sum(not block[-1].startswith("ok ") for block in made.blocks)})
+            found.update(
+                {
+                    "lists for serve": 1, "lines for serve": len(made.lines), "events of serve": len(made.serve.events),
+                    "lines that serve can't follow": sum(not block[-1].startswith("ok ") for block in made.blocks),
+                }
+            )
             if fault:
                 found["differences"] += 1
                 print(f"{name}, list {i}: {fault}")
-    print(", ".join(f"{found[what]} {what}" for what in [*(what for what in found if what != "differences"), "differences"]))
+    print(
+        ", ".join(
+            f"{found[what]} {what}" for what in [*(what for what in found if what != "differences"), "differences"]
+        )
+    )
     if not has_serve:
         print(NO_SERVE)
     return found["differences"] > 0 or not found["lists for drive"]
@@ -297,11 +338,15 @@ def compare(program_path, chosen, folder):
 
 def main():
     parser = argparse.ArgumentParser(description=__doc__, formatter_class=argparse.RawDescriptionHelpFormatter)
-    parser.add_argument("--lists", type=int, default=20, metavar="N", help="how many lists of lines for each update (20)")
+    parser.add_argument(
+        "--lists", type=int, default=20, metavar="N", help="how many lists of lines for each update (20)"
+    )
     parser.add_argument("--lines", type=int, default=200, metavar="N", help="the longest list (200)")
     parser.add_argument("--networks", type=int, default=20, metavar="N", help="how many random updates (20)")
-    parser.add_argument("--restless", type=float, default=RESTLESS, metavar="SHARE", help=f"how many of the lines for serve turn a round, open a session anew, or "
-                        f"say nothing ({RESTLESS})")
+    parser.add_argument(
+        "--restless", type=float, default=RESTLESS, metavar="SHARE",
+        help=f"how many of the lines for serve turn a round, open a session anew, or say nothing ({RESTLESS})",
+    )
     parser.add_argument("--seed", type=int, default=1, metavar="N")
     chosen = parser.parse_args()
     with tempfile.TemporaryDirectory() as name:

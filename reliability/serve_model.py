@@ -1,12 +1,16 @@
-"""A model of `planner serve`, for the tests of it and for `serve.py`. It shares no code with the program, and looks at no evidence of a plan.
+"""A model of `planner serve`, for the tests of it and for `serve.py`. It shares no code with the program, and looks at
+no evidence of a plan.
 
-`planner serve TOPO OLD NEW POLICY PLAN` is the core of a controller that stays there while an update is carried out. Where the plan is certified it
-takes lines from its standard input, and after each one it writes a block of lines, whole, before it takes the next. What it is told:
+`planner serve TOPO OLD NEW POLICY PLAN` is the core of a controller that stays there while an update is carried out.
+Where the plan is certified it takes lines from its standard input, and after each one it writes a block of lines,
+whole, before it takes the next. What it is told:
 
     start                a round may begin: all packets that entered before the last one was settled are gone
-    back                 go back: turn the running round, or undo the last one that is settled (then all packets that entered before are gone)
+    back                 go back: turn the running round, or undo the last one that is settled (then all packets that
+                         entered before are gone)
     feed SWITCH HEX      bytes came from a switch; a message may be cut anywhere
-    reopen SWITCH        the connection with the switch is a new one, what was sent before and isn't done yet never will be, and it kept its table
+    reopen SWITCH        the connection with the switch is a new one, what was sent before and isn't done yet never will
+                         be, and it kept its table
     # ..                 nothing: a line that is empty or begins so is a comment
 
 and what it says, in the order in which it comes about:
@@ -14,20 +18,25 @@ and what it says, in the order in which it comes about:
     send SWITCH HEX      this message is to be sent
     failed SWITCH CAUSE  the session with the switch failed, and stays so until `reopen`
     start, back, change I, undo I, settle
-                         what has happened: a round began, or its undoing did; change I of the round is in force, or is no longer; the round is settled
+                         what has happened: a round began, or its undoing did; change I of the round is in force, or is
+                         no longer; the round is settled
     ok settled K of N, ok running K of N
                          the end of the block: how many rounds are settled, or which one runs, in either way
     no running, no finished, no begun, no open SWITCH, bad line
-                         the whole block, where the line can't be followed. Everything stays as it was, and the next line is taken
+                         the whole block, where the line can't be followed. Everything stays as it was, and the next
+                         line is taken
 
-The block of line 0, before any line, has a HELLO for each switch. A round's messages are those of `planner emit`: its changes, and then a barrier request
-for each switch that has some. The changes of a switch are in force when it has answered that request, and the round is settled when all have.
+The block of line 0, before any line, has a HELLO for each switch. A round's messages are those of `planner emit`: its
+changes, and then a barrier request for each switch that has some. The changes of a switch are in force when it has
+answered that request, and the round is settled when all have.
 
-To turn a round, the inverses of its changes are sent in the opposite order, and then barrier requests again: an insert is taken back by a delete, a delete
-by an insert, a replace by a replace with the action that the entry had before the round. The answer to the request behind the inverses of a switch says
-that none of its changes is in force any more. Requests are answered in the order in which they were sent, so that of the round itself comes first where
-it is still missing. A switch with a session that isn't open gets nothing then. When its HELLO opens the session again, it gets the messages of the running
-round that it hasn't answered, with the xids that they had: of a round that is being undone the inverses alone.
+To turn a round, the inverses of its changes are sent in the opposite order, and then barrier requests again: an insert
+is taken back by a delete, a delete by an insert, a replace by a replace with the action that the entry had before the
+round. The answer to the request behind the inverses of a switch says that none of its changes is in force any more.
+Requests are answered in the order in which they were sent, so that of the round itself comes first where it is still
+missing. A switch with a session that isn't open gets nothing then. When its HELLO opens the session again, it gets the
+messages of the running round that it hasn't answered, with the xids that they had: of a round that is being undone the
+inverses alone.
 """
 import dataclasses
 import ipaddress
@@ -57,22 +66,41 @@ class Change:
 
     @staticmethod
     def read(do, item):
-        return Change(do, item["switch"], tuple(sorted((key, value) for key, value in item.items() if key not in ("do", "switch"))))
+        return Change(
+            do, item["switch"],
+            tuple(sorted((key, value) for key, value in item.items() if key not in ("do", "switch"))),
+        )
 
     @property
     def key(self):
         """The switch, and the entry of its table: priority and match."""
         rule = dict(self.rule)
-        return self.switch, rule["priority"], rule.get("in_port", "any"), str(rule.get("vlan", "any")), ipaddress.ip_network(rule["dst"])
+        return (
+            self.switch, rule["priority"], rule.get("in_port", "any"), str(rule.get("vlan", "any")),
+            ipaddress.ip_network(rule["dst"]),
+        )
 
     def message(self, xid):
         """The flow message (OpenFlow 1.0.0, section 5.3.3)."""
         rule, command = dict(self.rule), {"insert": 0, "replace": 2, "delete": 4}[self.do]
         port, vlan, block = rule.get("in_port", "any"), rule.get("vlan", "any"), ipaddress.ip_network(rule["dst"])
-        wildcards = (1 << 21 | 1 << 20 | (32 - block.prefixlen) << 14 | 32 << 8 | 1 << 7 | 1 << 6 | 1 << 5 | 1 << 3 | 1 << 2
-                     | (vlan == "any") << 1 | (port == "any"))
-        match = struct.pack("!IH12xHxxHxx2x4x4s4x", wildcards, 0 if port == "any" else port, {"any": 0, "untagged": 0xFFFF}.get(vlan, vlan), 0x0800,
-                            block.network_address.packed)
+        wildcards = (
+            1 << 21
+            | 1 << 20
+            | (32 - block.prefixlen) << 14
+            | 32 << 8
+            | 1 << 7
+            | 1 << 6
+            | 1 << 5
+            | 1 << 3
+            | 1 << 2
+            | (vlan == "any") << 1
+            | (port == "any")
+        )
+        match = struct.pack(
+            "!IH12xHxxHxx2x4x4s4x", wildcards, 0 if port == "any" else port,
+            {"any": 0, "untagged": 0xFFFF}.get(vlan, vlan), 0x0800, block.network_address.packed,
+        )
         actions = b"" if self.do == "delete" else actions_of(rule)
         body = match + struct.pack("!8xHHHHIHH", command, 0, 0, rule["priority"], 0xFFFFFFFF, 0xFFFF, 0) + actions
         return message(FLOW_MOD, xid, body)
@@ -81,7 +109,13 @@ class Change:
 def actions_of(rule):
     if rule["out"] == "drop":
         return b""
-    rewrite = struct.pack("!HHHxx", 1, 8, rule["set"]) if "set" in rule else struct.pack("!HH4x", 3, 8) if rule.get("strip") else b""
+    rewrite = (
+        struct.pack("!HHHxx", 1, 8, rule["set"])
+        if "set" in rule
+        else struct.pack("!HH4x", 3, 8)
+        if rule.get("strip")
+        else b""
+    )
     return rewrite + struct.pack("!HHHH", 0, 8, rule["out"], 0)
 
 
@@ -116,7 +150,8 @@ def after(changes, table):
 
 @dataclasses.dataclass
 class Session:
-    """A session with a switch. `due` has the barrier requests that were sent on it and aren't answered, in order: the xid of each, and its way."""
+    """A session with a switch. `due` has the barrier requests that were sent on it and aren't answered, in order: the
+    xid of each, and its way."""
     state: str = WAITING
     unread: bytes = b""
     due: list = dataclasses.field(default_factory=list)
@@ -124,7 +159,8 @@ class Session:
 
 @dataclasses.dataclass
 class Sending:
-    """What one way of a round sends: messages by switch, the last of each a barrier request; and the switches that haven't answered that."""
+    """What one way of a round sends: messages by switch, the last of each a barrier request; and the switches that
+    haven't answered that."""
     way: str
     messages: dict
     unanswered: set
@@ -174,7 +210,12 @@ class Serve:
             self.back()
         elif len(words) == 2 and words[0] == "reopen" and words[1] in self.sessions:
             self.reopen(words[1])
-        elif len(words) == 3 and words[0] == "feed" and words[1] in self.sessions and re.fullmatch("([0-9a-fA-F]{2})+", words[2]):
+        elif (
+            len(words) == 3
+            and words[0] == "feed"
+            and words[1] in self.sessions
+            and re.fullmatch("([0-9a-fA-F]{2})+", words[2])
+        ):
             self.feed(words[1], bytes.fromhex(words[2]))
         else:
             raise No("bad line")
@@ -182,7 +223,8 @@ class Serve:
     # -- rounds
 
     def number_of_running(self):
-        """The number, from 1, of the round that runs: `settled` counts those that were settled before it, also while it is being undone."""
+        """The number, from 1, of the round that runs: `settled` counts those that were settled before it, also while it
+        is being undone."""
         return self.settled + 1
 
     def running(self):
@@ -221,7 +263,9 @@ class Serve:
         touched = [name for name in self.switches if any(change.switch == name for change in changes)]
         numbered = [(change.switch, change.message(self.next_xid())) for change in changes]
         numbered += [(name, message(BARRIER_REQUEST, self.next_xid())) for name in touched]
-        self.sending = Sending(way, {name: [piece for of, piece in numbered if of == name] for name in touched}, set(touched))
+        self.sending = Sending(
+            way, {name: [piece for of, piece in numbered if of == name] for name in touched}, set(touched)
+        )
         for name, piece in numbered:
             if self.sessions[name].state == OPEN:
                 self.send(name, piece)

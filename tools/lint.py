@@ -3,18 +3,20 @@
 
     tools/lint.py
 
-Of Python: what the compiler warns of, tabs, white space at the end of a line, and lines of more than 240 signs that hold no long text; and what pyflakes
-says (Debian's package pyflakes3): names that nothing uses or nothing gives a value, and more; and what mypy says, by mypy.ini, of what has types. Of shell
+Of Python: what the compiler warns of, tabs, white space at the end of a line, and lines of more than 120 signs, but for those of texts that stand as they are
+(help, other languages) and for tools/, where they may have 240; and what pyflakes says (Debian's package pyflakes3): names that nothing uses or nothing gives a value, and more; and what mypy says, by mypy.ini, of what has types. Of shell
 scripts: what shellcheck says. Where one of the three isn't on the machine it is left out, and a line on the error stream says so.
 Exit status: 0 nothing was found, 1 something was.
 """
 from __future__ import annotations
 
 import ast
+import io
 import os
 import shutil
 import subprocess
 import sys
+import tokenize
 import warnings
 
 TYPE_CHECKING = False
@@ -22,7 +24,7 @@ if TYPE_CHECKING:
     from typing import Sequence
 
 ROOT = os.path.dirname(os.path.dirname(os.path.realpath(__file__)))
-LONGEST = 240
+LONGEST, LONGEST_IN_TOOLS = 120, 240
 PYFLAKES = ("pyflakes3", "pyflakes")
 # The packages that mypy looks at, and the folders whose scripts it looks at; those of a folder name each other without it.
 TYPED_PACKAGES, TYPED_FOLDERS = ("planner_tools", "planner"), ("bench",)
@@ -63,12 +65,22 @@ def of_python(path: str) -> list[tuple[int, str]]:
         except SyntaxError as fault:
             return [(fault.lineno or 0, f"it isn't Python: {fault.msg}")]
     findings = [(one.lineno, str(one.message)) for one in found]
-    prose = {number for node in ast.walk(tree) if isinstance(node, ast.Constant) and isinstance(node.value, str) and len(node.value) > LONGEST - 90
-             for number in range(node.lineno, (node.end_lineno or node.lineno) + 1)}
+    longest, prose = LONGEST_IN_TOOLS if os.path.dirname(path) == os.path.join(ROOT, "tools") else LONGEST, texts_in(text, tree)
     for number, line in enumerate(text.splitlines(), 1):
-        looked_for = (("a tab", "\t" in line), ("white space at its end", line != line.rstrip()), (f"more than {LONGEST} signs", len(line) > LONGEST and number not in prose))
+        looked_for = (("a tab", "\t" in line), ("white space at its end", line != line.rstrip()), (f"more than {longest} signs", len(line) > longest and number not in prose))
         findings += [(number, words) for words, is_so in looked_for if is_so]
     return findings
+
+
+def texts_in(text: str, tree: ast.Module) -> set[int]:
+    """The lines of texts that stand as they are, over several lines: but of those about a module, a class or a function only such as are printed."""
+    about = {node.body[0].lineno for node in ast.walk(tree) if isinstance(node, (ast.Module, ast.ClassDef, ast.FunctionDef, ast.AsyncFunctionDef))
+             and ast.get_docstring(node) is not None and not (isinstance(node, ast.Module) and "__doc__" in text)}
+    found: set[int] = set()
+    for token in tokenize.generate_tokens(io.StringIO(text).readline):
+        if token.type == tokenize.STRING and token.start[0] != token.end[0] and token.start[0] not in about:
+            found |= set(range(token.start[0], token.end[0] + 1))
+    return found
 
 
 def of_names(paths: Sequence[str]) -> list[str]:

@@ -28,7 +28,8 @@ class Lint(unittest.TestCase):
             return look(path)
 
     def test_what_is_found(self):
-        for text, words in (("x = 1 \n", "white space at its end"), ("if x is 1: pass\n", '"is" with'), ("def f(:\n", "it isn't Python"), ("x = 1" + " " * 240 + "# y\n", "more than 240 signs"),
+        for text, words in (("x = 1 \n", "white space at its end"), ("if x is 1: pass\n", '"is" with'), ("def f(:\n", "it isn't Python"), ("x = 1" + " " * 120 + "# y\n", "more than 120 signs"),
+                            ('"""' + "a " * 70 + '."""\n', "more than 120 signs"),
                             ("if x:\n\ty = 1\n", "a tab")):
             with self.subTest(words):
                 self.assertIn(words, " ".join(line for _, line in self.of(text, lint.of_python)))

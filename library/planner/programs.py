@@ -17,7 +17,8 @@ class NoProgram(Exception):
 
 
 def home() -> pathlib.Path | None:
-    """The folder of the front end: the checkout or the installation in which this package is, or that of the command `planner` on the path."""
+    """The folder of the front end: the checkout or the installation in which this package is, or that of the command
+    `planner` on the path."""
     beside = pathlib.Path(__file__).resolve().parents[2]
     found = shutil.which("planner")
     for one in (beside, pathlib.Path(found).resolve().parent if found else None):
@@ -27,7 +28,8 @@ def home() -> pathlib.Path | None:
 
 
 def program() -> str:
-    """The path of the proved program: what the variable PLANNER names, otherwise the one that was built or installed. Nothing is built."""
+    """The path of the proved program: what the variable PLANNER names, otherwise the one that was built or installed.
+    Nothing is built."""
     at = home()
     named = os.environ.get("PLANNER")
     if named and (at is None or pathlib.Path(named).resolve() != at / "planner"):
@@ -52,8 +54,9 @@ def front_end() -> str:
 
 
 class Files:
-    """The files of a run. What isn't in a file yet is written into a folder that is there as long as this is entered. Where `is_apart`, the folder is there in any
-    case, and the run is to be in it; otherwise only where something has to be written."""
+    """The files of a run. What isn't in a file yet is written into a folder that is there as long as this is entered.
+    Where `is_apart`, the folder is there in any case, and the run is to be in it; otherwise only where something has to
+    be written."""
 
     def __init__(self, given: Mapping[str, File], is_apart: bool = True):
         self.given, self.is_apart = given, is_apart
@@ -70,7 +73,8 @@ class Files:
 
     @property
     def folder(self) -> str | None:
-        """The folder of what was written, or None. Names of files in it have no folder, so that they are told as they are."""
+        """The folder of what was written, or None. Names of files in it have no folder, so that they are told as they
+        are."""
         return self.room.name if self.room is not None else None
 
     def name_of(self, name: str, file: File) -> str:

@@ -13,7 +13,8 @@ from planner.programs import NoProgram
 
 # How long the end of `serve` is waited for when it is to end, in seconds.
 END = 2.0
-# Where something is to be done meanwhile, an answer is waited for so long before, in seconds; and otherwise so long at a time.
+# Where something is to be done meanwhile, an answer is waited for so long before, in seconds; and otherwise so long at
+# a time.
 SOON, LATE = 0.002, 3600.0
 
 
@@ -44,14 +45,21 @@ class Blocks:
 
 
 class Serve:
-    """A run of `serve` over five files. Where `meanwhile` is given it is called again and again as long as an answer is waited for."""
+    """A run of `serve` over five files. Where `meanwhile` is given it is called again and again as long as an answer is
+    waited for."""
 
-    def __init__(self, program: str, names: Sequence[str], folder: str | None, patience: float, meanwhile: Callable[[], None] | None = None):
+    def __init__(
+        self, program: str, names: Sequence[str], folder: str | None, patience: float,
+        meanwhile: Callable[[], None] | None = None,
+    ):
         self.patience, self.meanwhile = patience, meanwhile
         self.said, self.unsent = Blocks(), b""
         try:
             # in a session of its own, since a key that ends the controller isn't meant for the program
-            self.process = subprocess.Popen([program, "serve", *names], stdin=subprocess.PIPE, stdout=subprocess.PIPE, bufsize=0, cwd=folder, start_new_session=True)
+            self.process = subprocess.Popen(
+                [program, "serve", *names], stdin=subprocess.PIPE, stdout=subprocess.PIPE, bufsize=0, cwd=folder,
+                start_new_session=True,
+            )
         except OSError as fault:
             raise NoProgram(f"the program can't be run: {fault}") from fault
         assert self.process.stdin is not None and self.process.stdout is not None

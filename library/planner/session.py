@@ -1,5 +1,5 @@
-"""Sessions over `planner serve`: for threads, and what those for asyncio share with them. They give lines and take blocks; what follows from these is of
-core.py."""
+"""Sessions over `planner serve`: for threads, and what those for asyncio share with them. They give lines and take
+blocks; what follows from these is of core.py."""
 from __future__ import annotations
 
 import contextlib
@@ -27,9 +27,12 @@ class Record:
         lines = self.file.read().split(b"\n")[:-1] if resume else []
         if lines and lines[0].decode() != head:
             self.file.close()
-            raise ValueError(f"{os.fspath(path)} is the record of another update: its first line has the sums of its files")
+            raise ValueError(
+                f"{os.fspath(path)} is the record of another update: its first line has the sums of its files"
+            )
         self.lines = [line.decode("ascii") for line in lines[1:]]
-        self.file.truncate(sum(len(line) + 1 for line in lines))         # without a last line that was cut off: nothing followed from it
+        # without a last line that was cut off: nothing followed from it
+        self.file.truncate(sum(len(line) + 1 for line in lines))
         self.file.seek(0, os.SEEK_END)
         if not lines:
             self.add(head)
@@ -47,7 +50,10 @@ class Record:
 class Update:
     """What both sessions share: the work of each call, as lines that are given and blocks that are taken."""
 
-    def __init__(self, files: dict[str, File], send: Optional[Send], record: str | os.PathLike[str] | None, resume: bool, patience: float):
+    def __init__(
+        self, files: dict[str, File], send: Optional[Send], record: str | os.PathLike[str] | None, resume: bool,
+        patience: float,
+    ):
         data = {name: bytes_of(file) for name, file in files.items()}
         # with a record `serve` reads the very bytes of which it has the sums
         self.files = Files(data, is_apart=False) if record is not None else Files(files, is_apart=False)
@@ -138,14 +144,17 @@ class Update:
 
 
 class Session(Update):
-    """A session for threads. Each call is whole before the next begins, and `send` is called in its midst, so messages go out in their order.
+    """A session for threads. Each call is whole before the next begins, and `send` is called in its midst, so messages
+    go out in their order.
 
-    `program` is the path of the program, where it isn't the one that is found. `meanwhile` is called again and again as long as an answer is waited for; it
-    takes some time, and what it raises ends the session."""
+    `program` is the path of the program, where it isn't the one that is found. `meanwhile` is called again and again as
+    long as an answer is waited for; it takes some time, and what it raises ends the session."""
 
-    def __init__(self, topology: File, old: File, new: File, policy: File, plan: File, *, send: Optional[Send] = None,
-                 record: str | os.PathLike[str] | None = None, resume: bool = False, patience: float = 60.0, program: str | None = None,
-                 meanwhile: Optional[Callable[[], None]] = None):
+    def __init__(
+        self, topology: File, old: File, new: File, policy: File, plan: File, *, send: Optional[Send] = None,
+        record: str | os.PathLike[str] | None = None, resume: bool = False, patience: float = 60.0,
+        program: str | None = None, meanwhile: Optional[Callable[[], None]] = None,
+    ):
         super().__init__(dict(zip(FILES, (topology, old, new, policy, plan))), send, record, resume, patience)
         self.lock = threading.RLock()
         self._serve: Serve | None = None
@@ -154,7 +163,8 @@ class Session(Update):
                 self._serve = Serve(program or path(), names, self.files.folder, patience, meanwhile)
                 lines = self._begin(self._serve.block())
             for line, block in zip(lines, self._serve.blocks(lines)):
-                self.core.take(line, block)      # what it says was sent before, or is said again behind `reopen`; what was refused then is refused again
+                # what it says was sent before, or is said again behind `reopen`; what was refused then is refused again
+                self.core.take(line, block)
         except BaseException:
             self.close()
             raise
@@ -166,21 +176,25 @@ class Session(Update):
         return self._do(self._feed(switch, data))
 
     def start(self) -> Step:
-        """The next round begins: every packet that entered before the last one was settled has left, was dropped or was lost. NotNow where it can't."""
+        """The next round begins: every packet that entered before the last one was settled has left, was dropped or was
+        lost. NotNow where it can't."""
         return self._do(self._line("start"))
 
     def back(self) -> Step:
-        """The running round is turned; where none runs, the one that was settled last is undone, and of packets it is said what `start` says."""
+        """The running round is turned; where none runs, the one that was settled last is undone, and of packets it is
+        said what `start` says."""
         return self._do(self._line("back"))
 
     def reopen(self, switch: str) -> Step:
-        """There is a new session with the switch: what was sent to it before and isn't carried out by now never will be, and it has kept its table."""
+        """There is a new session with the switch: what was sent to it before and isn't carried out by now never will
+        be, and it has kept its table."""
         with self.lock:
             return self._do(self._line(self.core.reopen(switch)))
 
     def replies(self, lines: Sequence[str]) -> Iterator[Reply]:
-        """Gives lines of a record that whoever calls keeps himself, all of them together, and yields what is answered to each as soon as that is there. A line
-        that isn't taken is a reply too. All of the replies are to be taken before the next call."""
+        """Gives lines of a record that whoever calls keeps himself, all of them together, and yields what is answered
+        to each as soon as that is there. A line that isn't taken is a reply too. All of the replies are to be taken
+        before the next call."""
         with self.lock:
             for line in lines:
                 self._note(line)
@@ -217,7 +231,8 @@ class Session(Update):
 
     @contextlib.contextmanager
     def _whole(self) -> Iterator[Serve]:
-        """The run of `serve`. Where it isn't left in good order the session is of no use any more: a block may be outstanding."""
+        """The run of `serve`. Where it isn't left in good order the session is of no use any more: a block may be
+        outstanding."""
         if self._serve is None:
             raise ServeEnded("the session is closed")
         self._is_broken, was_broken = True, self._is_broken

@@ -13,22 +13,27 @@ from planner.session import FILES, Lines, Send, Update
 
 
 class AsyncSession(Update):
-    """A session for asyncio: `session = await AsyncSession.begin(..)`. A call that is cancelled is carried out all the same; its messages go by `send`."""
+    """A session for asyncio: `session = await AsyncSession.begin(..)`. A call that is cancelled is carried out all the
+    same; its messages go by `send`."""
 
     _process: asyncio.subprocess.Process
     _lock: asyncio.Lock
     _said: Blocks
 
     @classmethod
-    async def begin(cls, topology: File, old: File, new: File, policy: File, plan: File, *, send: Optional[Send] = None,
-                    record: str | os.PathLike[str] | None = None, resume: bool = False, patience: float = 60.0) -> AsyncSession:
+    async def begin(
+        cls, topology: File, old: File, new: File, policy: File, plan: File, *, send: Optional[Send] = None,
+        record: str | os.PathLike[str] | None = None, resume: bool = False, patience: float = 60.0,
+    ) -> AsyncSession:
         """Begins a session. Refused where the plan isn't accepted."""
         self = cls(dict(zip(FILES, (topology, old, new, policy, plan))), send, record, resume, patience)
         self._lock, self._said = asyncio.Lock(), Blocks()
         try:
             with self.files as names:
-                self._process = await asyncio.create_subprocess_exec(path(), "serve", *names, stdin=subprocess.PIPE, stdout=subprocess.PIPE, limit=1 << 22,
-                                                                     cwd=self.files.folder, start_new_session=True)
+                self._process = await asyncio.create_subprocess_exec(
+                    path(), "serve", *names, stdin=subprocess.PIPE, stdout=subprocess.PIPE, limit=1 << 22,
+                    cwd=self.files.folder, start_new_session=True,
+                )
                 lines = self._begin(await self._block(b""))
             for line in lines:
                 self.core.take(line, await self._block(f"{line}\n".encode()))

@@ -1,4 +1,5 @@
-"""What a session knows by what `planner serve` has said, without a program; and the lines that it is given by whoever keeps a record. PLANNER names the program."""
+"""What a session knows by what `planner serve` has said, without a program; and the lines that it is given by whoever
+keeps a record. PLANNER names the program."""
 import os
 import pathlib
 import shlex
@@ -34,19 +35,44 @@ class Cores(unittest.TestCase):
             ("", [f"send s1 {hello}", "ok settled 0 of 2"], (False, False, 0, set(), ""), []),
             ("start", ["no open s1"], (False, False, 0, set(), ""), []),
             (f"feed s1 {hello}", ["ok settled 0 of 2"], (False, False, 0, set(), ""), []),
-            ("start", ["start", f"send s1 {flow.hex()}", f"send s1 {request.hex()}", "ok running 1 of 2"], (True, False, 0, {"s1"}, "start\n"), ["started"]),
-            (f"feed s1 {reply}", ["change 0", "settle", "ok settled 1 of 2"], (False, False, 1, set(), "start\nchange 0\nsettle\n"), ["changed", "settled"]),
-            ("back", ["back", f"send s1 {request.hex()}", "ok running 1 of 2"], (True, True, 0, {"s1"}, "start\n"), ["turned"]),
-            ("feed s1 0100000c000000020003", ["failed s1 Error 3 0", "ok running 1 of 2"], (True, True, 0, {"s1"}, "start\n"), ["failed"]),
+            (
+                "start", ["start", f"send s1 {flow.hex()}", f"send s1 {request.hex()}", "ok running 1 of 2"],
+                (True, False, 0, {"s1"}, "start\n"), ["started"],
+            ),
+            (
+                f"feed s1 {reply}", ["change 0", "settle", "ok settled 1 of 2"],
+                (False, False, 1, set(), "start\nchange 0\nsettle\n"), ["changed", "settled"],
+            ),
+            (
+                "back", ["back", f"send s1 {request.hex()}", "ok running 1 of 2"], (True, True, 0, {"s1"}, "start\n"),
+                ["turned"],
+            ),
+            (
+                "feed s1 0100000c000000020003", ["failed s1 Error 3 0", "ok running 1 of 2"],
+                (True, True, 0, {"s1"}, "start\n"), ["failed"],
+            ),
             ("reopen s1", [f"send s1 {hello}", "ok running 1 of 2"], (True, True, 0, set(), "start\n"), []),
-            (f"feed s1 {hello}", [f"send s1 {request.hex()}", "ok running 1 of 2"], (True, True, 0, {"s1"}, "start\n"), []),
-            (f"feed s1 {reply}", ["undo 0", "settle", "ok settled 0 of 2"], (False, True, 0, set(), ""), ["undone", "taken back"]),
+            (
+                f"feed s1 {hello}", [f"send s1 {request.hex()}", "ok running 1 of 2"],
+                (True, True, 0, {"s1"}, "start\n"), [],
+            ),
+            (
+                f"feed s1 {reply}", ["undo 0", "settle", "ok settled 0 of 2"], (False, True, 0, set(), ""),
+                ["undone", "taken back"],
+            ),
         ]
         for line, block, expected, kinds in steps:
             with self.subTest(line):
                 answer = core.take(line, block)
-                sent = tuple(planner.Message(it.split()[1], bytes.fromhex(it.split()[2])) for it in block if it.startswith("send "))
-                self.assertEqual((line, block[-1], sent, kinds), (answer.line, answer.last, answer.messages, [one.kind for one in answer.events]))
+                sent = tuple(
+                    planner.Message(it.split()[1], bytes.fromhex(it.split()[2]))
+                    for it in block
+                    if it.startswith("send ")
+                )
+                self.assertEqual(
+                    (line, block[-1], sent, kinds),
+                    (answer.line, answer.last, answer.messages, [one.kind for one in answer.events]),
+                )
                 self.assertEqual(expected, (core.is_running, core.is_back, core.settled, core.owing(), core.schedule()))
         self.assertEqual((1, 1, {"s1"}, 1), (core.carried_out, core.undone, core.open, core.failures))
 
@@ -97,7 +123,9 @@ class OwnRecords(unittest.TestCase):
 
     def test_lines_are_given_together_and_each_is_answered(self):
         sent, calls = [], []
-        session = self.session(self.slow(), send=lambda name, data: sent.append(name), meanwhile=lambda: calls.append(1))
+        session = self.session(
+            self.slow(), send=lambda name, data: sent.append(name), meanwhile=lambda: calls.append(1)
+        )
         lines = [*self.LINES, "start", "start", "nothing", "back"]
         replies = list(session.replies(lines))
         self.assertEqual(lines, [one.line for one in replies])

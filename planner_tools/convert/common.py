@@ -149,12 +149,20 @@ class Topology:
 
     def faults(self) -> list[str]:
         """What of it the planner would refuse."""
-        found = [f"switch {name!r}: a name has 1 to 32 ASCII letters, digits, `-` and `_`" for name in self.capacities if not NAME.fullmatch(name)]
+        found = [
+            f"switch {name!r}: a name has 1 to 32 ASCII letters, digits, `-` and `_`"
+            for name in self.capacities
+            if not NAME.fullmatch(name)
+        ]
         if not self.capacities:
             found.append("there is no switch")
         if len(self.capacities) > MOST_SWITCHES:
             found.append(f"there are {len(self.capacities)} switches, and a topology has at most {MOST_SWITCHES}")
-        return found + [f"switch {name} uses {len(ports)} ports, and at most {MOST_PORTS} can be used" for name, ports in self.used.items() if len(ports) > MOST_PORTS]
+        return found + [
+            f"switch {name} uses {len(ports)} ports, and at most {MOST_PORTS} can be used"
+            for name, ports in self.used.items()
+            if len(ports) > MOST_PORTS
+        ]
 
     def text(self) -> str:
         """The file, a line for each switch and link."""
@@ -162,8 +170,11 @@ class Topology:
             lines = [f"    {json.dumps(value)}" for value in values]
             return "[\n" + ",\n".join(lines) + "\n  ]" if lines else "[]"
 
-        members = [("switches", listed({"name": name, "capacity": most} for name, most in self.capacities.items())), ("links", listed(self.links)),
-                   ("hosts", json.dumps(self.hosts)), ("vlans", json.dumps(self.vlans)), ("tags", json.dumps(self.tags))]
+        members = [
+            ("switches", listed({"name": name, "capacity": most} for name, most in self.capacities.items())),
+            ("links", listed(self.links)), ("hosts", json.dumps(self.hosts)), ("vlans", json.dumps(self.vlans)),
+            ("tags", json.dumps(self.tags)),
+        ]
         return "{\n" + ",\n".join(f'  "{name}": {value}' for name, value in members) + "\n}\n"
 
 

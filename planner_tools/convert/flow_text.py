@@ -1,4 +1,5 @@
-"""Reads the text of `ovs-ofctl dump-flows` into entries of flow statistics of OpenFlow 1.0.0, of which `entries.py` says what a configuration can't say."""
+"""Reads the text of `ovs-ofctl dump-flows` into entries of flow statistics of OpenFlow 1.0.0, of which `entries.py`
+says what a configuration can't say."""
 from __future__ import annotations
 
 import ipaddress
@@ -12,19 +13,28 @@ if TYPE_CHECKING:
     from typing import Iterator
 
 # Words for the type of a packet, some with a protocol.
-TYPES = {"ip": IPV4, "arp": 0x0806, "rarp": 0x8035, "ipv6": 0x86DD, "mpls": 0x8847, "mplsm": 0x8848,
-         "icmp6": 0x86DD, "tcp6": 0x86DD, "udp6": 0x86DD, "sctp6": 0x86DD, "icmp": IPV4, "tcp": IPV4, "udp": IPV4, "sctp": IPV4}
+TYPES = {
+    "ip": IPV4, "arp": 0x0806, "rarp": 0x8035, "ipv6": 0x86DD, "mpls": 0x8847, "mplsm": 0x8848, "icmp6": 0x86DD,
+    "tcp6": 0x86DD, "udp6": 0x86DD, "sctp6": 0x86DD, "icmp": IPV4, "tcp": IPV4, "udp": IPV4, "sctp": IPV4,
+}
 PROTOCOLS = {"icmp": 1, "tcp": 6, "udp": 17, "sctp": 132, "icmp6": 58, "tcp6": 6, "udp6": 17, "sctp6": 132}
 # What stands before the match and says nothing of it.
 COUNTS = {"cookie", "duration", "n_packets", "n_bytes", "idle_age", "hard_age", "importance"}
 FLAGS = {"send_flow_rem", "check_overlap", "reset_counts", "no_packet_counts", "no_byte_counts"}
 NUMBERS = {"priority", "idle_timeout", "hard_timeout"}
-PORTS = {"IN_PORT": 0xFFF8, "TABLE": 0xFFF9, "NORMAL": 0xFFFA, "FLOOD": 0xFFFB, "ALL": 0xFFFC, "CONTROLLER": 0xFFFD, "LOCAL": 0xFFFE}
+PORTS = {
+    "IN_PORT": 0xFFF8, "TABLE": 0xFFF9, "NORMAL": 0xFFFA, "FLOOD": 0xFFFB, "ALL": 0xFFFC, "CONTROLLER": 0xFFFD,
+    "LOCAL": 0xFFFE,
+}
 DEFAULT_PRIORITY = 32768
 # Fields that OpenFlow 1.0 has and a configuration hasn't, with their bit of `wildcards`.
-OTHERS = {"dl_src": 2, "dl_dst": 3, "nw_proto": 5, "tp_src": 6, "tp_dst": 7, "icmp_type": 6, "icmp_code": 7, "nw_tos": 21}
+OTHERS = {
+    "dl_src": 2, "dl_dst": 3, "nw_proto": 5, "tp_src": 6, "tp_dst": 7, "icmp_type": 6, "icmp_code": 7, "nw_tos": 21,
+}
 TOKEN = re.compile(r'\s*,?\s*([A-Za-z_][\w.\[\]]*)(?:=("(?:[^"\\]|\\.)*"|\([^()]*\)|[^\s,]*))?')
-HEADER = re.compile(r"(?:NXST|OFPST)_FLOW reply(?P<version> \(OF[\d.]+\))? \(xid=0x[0-9a-fA-F]+\):(?P<more> flags=\[more\])?\s*")
+HEADER = re.compile(
+    r"(?:NXST|OFPST)_FLOW reply(?P<version> \(OF[\d.]+\))? \(xid=0x[0-9a-fA-F]+\):(?P<more> flags=\[more\])?\s*"
+)
 # What Mininet writes above the answer of each bridge.
 TITLE = re.compile(r"\*\*\* (\S+) -+\s*")
 # An action that no entry of a configuration has: its type is that of a vendor's.
@@ -36,7 +46,8 @@ class BadLine(Exception):
 
 
 class TextEntry:
-    """An entry of the text: the entry of OpenFlow 1.0 that the same switch would report, and what of it that one can't say."""
+    """An entry of the text: the entry of OpenFlow 1.0 that the same switch would report, and what of it that one can't
+    say."""
 
     def __init__(self, line: str) -> None:
         head, actions = split_actions(line)
@@ -50,7 +61,8 @@ class TextEntry:
         self.named: list[str] = []
         self.words = words_of(head, actions)
         seen: set[str] = set()
-        for name, value in sorted(tokens(head), key=lambda word: word[0] not in (*TYPES, "dl_type")):     # a prefix is read by the type
+        # a prefix is read by the type
+        for name, value in sorted(tokens(head), key=lambda word: word[0] not in (*TYPES, "dl_type")):
             if name in seen:
                 raise BadLine(f"{name} stands twice")
             seen.add(name)
@@ -145,12 +157,21 @@ class TextEntry:
     def data(self) -> bytes:
         """The bytes of the entry in flow statistics."""
         wildcards = 0x003FFFFF & ~self.others
-        for is_exact, bit in ((self.in_port is not None, 0), (self.vlan is not None, 1), (self.type is not None, 4), (self.has_pcp, 20)):
+        for is_exact, bit in (
+            (self.in_port is not None, 0), (self.vlan is not None, 1), (self.type is not None, 4), (self.has_pcp, 20),
+        ):
             wildcards &= ~(1 << bit) if is_exact else wildcards
         wildcards = wildcards & ~(63 << 8 | 63 << 14) | 32 - self.sources << 8 | 32 - self.length << 14
         table = int(self.table) if self.table.isdigit() else 255
-        match = struct.pack("!IH12xHBxHBB2xIIHH", wildcards, self.in_port or 0, self.vlan or 0, 0, self.type or 0, 0, 0, 0, self.base, 0, 0)
-        body = struct.pack("!Bx", min(table, 255)) + match + struct.pack("!8xHHH6x24x", min(self.priority, 0xFFFF), *self.timeouts.values())
+        match = struct.pack(
+            "!IH12xHBxHBB2xIIHH", wildcards, self.in_port or 0, self.vlan or 0, 0, self.type or 0, 0, 0, 0, self.base,
+            0, 0,
+        )
+        body = (
+            struct.pack("!Bx", min(table, 255))
+            + match
+            + struct.pack("!8xHHH6x24x", min(self.priority, 0xFFFF), *self.timeouts.values())
+        )
         return struct.pack("!H", 2 + len(body) + len(self.actions)) + body + self.actions
 
     def without_effect(self) -> str | None:
@@ -162,7 +183,10 @@ class TextEntry:
         if self.table != "0":
             return f"it stands in table {self.table}"
         if self.named:
-            return f"its port has a name, {', '.join(self.named)}, in place of a number: ask again with `ovs-ofctl --no-names dump-flows`"
+            return (
+                f"its port has a name, {', '.join(self.named)}, in place of a number: ask again with `ovs-ofctl"
+                " --no-names dump-flows`"
+            )
         words = Entry(self.data()).fault()
         return words or (f"it tests {', '.join(self.widened)}, which OpenFlow 1.0 can't say" if self.widened else None)
 
@@ -220,7 +244,11 @@ def tokens(text: str) -> Iterator[tuple[str, str | None]]:
 
 def words_of(head: str, actions: str) -> str:
     """An entry without its counts, as it is named in what is said of it."""
-    words = [name if value is None else f"{name}={value}" for name, value in tokens(head) if name not in COUNTS and name not in FLAGS and (name, value) != ("table", "0")]
+    words = [
+        name if value is None else f"{name}={value}"
+        for name, value in tokens(head)
+        if name not in COUNTS and name not in FLAGS and (name, value) != ("table", "0")
+    ]
     return f"{','.join(words)} actions={actions}".strip()
 
 
@@ -237,8 +265,8 @@ def split_top(text: str) -> list[str]:
 
 
 class FlowText:
-    """A whole text: its entries, the lines that are none, and what is to be said of it. Of a text of several bridges, as Mininet's `dpctl dump-flows` prints
-    it, only the part of one bridge counts."""
+    """A whole text: its entries, the lines that are none, and what is to be said of it. Of a text of several bridges,
+    as Mininet's `dpctl dump-flows` prints it, only the part of one bridge counts."""
 
     def __init__(self, text: str, bridge: str) -> None:
         self.is_version_1_0, self.is_newer, more = False, False, False
@@ -266,4 +294,9 @@ class FlowText:
                 except BadLine as fault:
                     self.bad.append((number, f"isn't an entry as `ovs-ofctl dump-flows` prints it: {fault}"))
         if more:
-            self.bad.append((len(text.splitlines()), "is the last one, though its message says that more follow: the text was cut off"))
+            self.bad.append(
+                (
+                    len(text.splitlines()),
+                    "is the last one, though its message says that more follow: the text was cut off",
+                )
+            )

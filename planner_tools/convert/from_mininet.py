@@ -1,14 +1,17 @@
 """`planner from-mininet`: makes a topology of what Mininet's commands `net`, `links` and `ports` print.
 
-In Mininet the interface `s1-eth2` is port 2 of s1; where `ports` is there, what it says counts. The interfaces of a host begin with `eth0`, those of a
-switch with `eth1` (and `net` shows `lo` of a switch).
+In Mininet the interface `s1-eth2` is port 2 of s1; where `ports` is there, what it says counts. The interfaces of a
+host begin with `eth0`, those of a switch with `eth1` (and `net` shows `lo` of a switch).
 """
 from __future__ import annotations
 
 import argparse
 import re
 
-from planner_tools.convert.common import MOST_CAPACITY, UNTAGGED, NotConverted, Topology, capacity, checked, name_list, nearest, read_text, run, say, tag_range, vlan_list
+from planner_tools.convert.common import (
+    MOST_CAPACITY, UNTAGGED, NotConverted, Topology, capacity, checked, name_list, nearest, read_text, run, say,
+    tag_range, vlan_list,
+)
 
 TYPE_CHECKING = False
 if TYPE_CHECKING:
@@ -25,7 +28,8 @@ class MininetText:
 
     def __init__(self, path: str) -> None:
         self.path = path
-        self.links: dict[tuple[str, str], int] = {}          # each as a pair in the order of the first line that has it, with that line's number
+        # each as a pair in the order of the first line that has it, with that line's number
+        self.links: dict[tuple[str, str], int] = {}
         self.switches: list[str] = []
         self.nodes: list[str] = []
         self.ports: dict[str, int] = {}
@@ -35,7 +39,13 @@ class MininetText:
         self.from_links: set[tuple[str, str]] = set()
         for number, line in enumerate(read_text(path).splitlines(), 1):
             words = PROMPT.sub("", line).split()
-            if not words or words == ["***"] or len(words) == 1 and words[0] in WORDS or line.lstrip().startswith(("#", "***")):
+            if (
+                not words
+                or words == ["***"]
+                or len(words) == 1
+                and words[0] in WORDS
+                or line.lstrip().startswith(("#", "***"))
+            ):
                 continue
             self.read(number, " ".join(words))
 
@@ -54,7 +64,9 @@ class MininetText:
         elif pairs and all(re.fullmatch(r"[^\s:]+:[^\s:]*", pair) for pair in pairs):
             self.read_net(number, name, pairs)
         else:
-            self.faults.append(f"{self.path}:{number}: no line as Mininet's `net`, `links` and `ports` print them: {line}")
+            self.faults.append(
+                f"{self.path}:{number}: no line as Mininet's `net`, `links` and `ports` print them: {line}"
+            )
 
     def read_net(self, number: int, name: str, pairs: Sequence[str]) -> None:
         """A line of `net`: a node, and what each of its interfaces is joined to."""
@@ -108,7 +120,10 @@ def topology_of(text: MininetText, options: argparse.Namespace) -> Topology:
     nodes = Nodes(text, options.hosts)
     faults = list(text.faults)
     if text.from_net and text.from_links and text.from_net != text.from_links:
-        faults += [f"{text.path}:{text.links[key]}: only one of `net` and `links` has the link {'<->'.join(key)}" for key in text.from_net ^ text.from_links]
+        faults += [
+            f"{text.path}:{text.links[key]}: only one of `net` and `links` has the link {'<->'.join(key)}"
+            for key in text.from_net ^ text.from_links
+        ]
     if not text.links:
         faults.append(f"{text.path}: there is no link in it: give what Mininet's `net` or `links` prints")
     topology = Topology(options.vlans, options.tags)
@@ -119,13 +134,19 @@ def topology_of(text: MininetText, options: argparse.Namespace) -> Topology:
     for (one, other), number in text.links.items():
         ends = [(text.node_of(end), end) for end in (one, other)]
         at_switches = [(name, nodes.port_of(end), end) for name, end in ends if name in topology.capacities]
-        bad = [f"{text.path}:{number}: which port of {name} {end} is isn't said: add what Mininet's `ports` prints" for name, port, end in at_switches if port is None]
+        bad = [
+            f"{text.path}:{number}: which port of {name} {end} is isn't said: add what Mininet's `ports` prints"
+            for name, port, end in at_switches
+            if port is None
+        ]
         bad += [f"{text.path}:{number}: {end} isn't NODE-INTERFACE" for name, end in ends if name is None]
         faults += bad
         if not at_switches and not bad:
             say(f"{text.path}:{number}: note: {one}<->{other} joins two hosts, and no switch: it is left out")
         if not bad:
-            (links if len(at_switches) == 2 else hosts).extend([[(name, port) for name, port, _ in at_switches]] if at_switches else [])
+            (links if len(at_switches) == 2 else hosts).extend(
+                [[(name, port) for name, port, _ in at_switches]] if at_switches else []
+            )
     if faults:
         raise NotConverted(faults)
     for pair in sorted(links, key=lambda pair: sorted((natural(name), port) for name, port in pair)):
@@ -136,12 +157,29 @@ def topology_of(text: MininetText, options: argparse.Namespace) -> Topology:
 
 
 def convert(words: Sequence[str]) -> str:
-    parser = argparse.ArgumentParser(prog="planner from-mininet", description="Makes a topology of what Mininet's commands `net`, `links` and `ports` print, and writes it.")
-    parser.add_argument("file", metavar="FILE", help="the text of one or more of these commands; - is the standard input")
-    parser.add_argument("--hosts", metavar="NAME,..", type=name_list, default=[], help="nodes that are hosts, where the text doesn't show it")
-    parser.add_argument("--vlans", metavar="VLAN,..", type=vlan_list, default=[UNTAGGED], help="the VLANs with which packets of hosts come: untagged")
-    parser.add_argument("--tags", metavar="FIRST-LAST", type=tag_range, default=[], help="VLAN ids that the planner may use as tags: none")
-    parser.add_argument("--capacity", metavar="N", type=capacity, default=MOST_CAPACITY, help=f"how many rules a switch can hold: {MOST_CAPACITY}, fewer than Open vSwitch can")
+    parser = argparse.ArgumentParser(
+        prog="planner from-mininet",
+        description="Makes a topology of what Mininet's commands `net`, `links` and `ports` print, and writes it.",
+    )
+    parser.add_argument(
+        "file", metavar="FILE", help="the text of one or more of these commands; - is the standard input"
+    )
+    parser.add_argument(
+        "--hosts", metavar="NAME,..", type=name_list, default=[],
+        help="nodes that are hosts, where the text doesn't show it",
+    )
+    parser.add_argument(
+        "--vlans", metavar="VLAN,..", type=vlan_list, default=[UNTAGGED],
+        help="the VLANs with which packets of hosts come: untagged",
+    )
+    parser.add_argument(
+        "--tags", metavar="FIRST-LAST", type=tag_range, default=[],
+        help="VLAN ids that the planner may use as tags: none",
+    )
+    parser.add_argument(
+        "--capacity", metavar="N", type=capacity, default=MOST_CAPACITY,
+        help=f"how many rules a switch can hold: {MOST_CAPACITY}, fewer than Open vSwitch can",
+    )
     options = parser.parse_args(words)
     return checked(topology_of(MininetText(options.file), options), options.file)
 

@@ -1,6 +1,7 @@
 """`planner from-ofctl`: makes a configuration of the text of `ovs-ofctl dump-flows`.
 
-The entries are written as the flow statistics that the switches would send, and `planner import` reads those: it decides what they mean.
+The entries are written as the flow statistics that the switches would send, and `planner import` reads those: it
+decides what they mean.
 """
 from __future__ import annotations
 
@@ -12,7 +13,9 @@ import struct
 import tempfile
 
 from planner_tools import program
-from planner_tools.convert.common import BAD_FILE, REFUSED, UNREADABLE, WRONG_WORDS, NotConverted, nearest, read_text, run, say
+from planner_tools.convert.common import (
+    BAD_FILE, REFUSED, UNREADABLE, WRONG_WORDS, NotConverted, nearest, read_text, run, say,
+)
 from planner_tools.convert.flow_text import FlowText
 from planner_tools.switches.entries import Entry
 
@@ -24,15 +27,20 @@ if TYPE_CHECKING:
 
 # How many entries a message of statistics has here: its length is a number of 16 bits.
 ENTRIES_PER_MESSAGE = 500
-# Open vSwitch has two entries for untagged packets: with this test, which no command of OpenFlow 1.0 reaches, and with `vlan_tci=0x0000`. Newer versions of
-# OpenFlow show both alike.
+# Open vSwitch has two entries for untagged packets: with this test, which no command of OpenFlow 1.0 reaches, and with
+# `vlan_tci=0x0000`. Newer versions of OpenFlow show both alike.
 MASKED_UNTAGGED = "vlan_tci=0x0000/0x1fff"
 WITHOUT_EFFECT = {"of other types": "it is for no IPv4 packet", "for a miss": "it does what a miss does"}
 IMPORT_WORDS = {
-    "BadPort": "its ingress port or its output port is neither a host port nor a link's end of {switch} in the topology",
+    "BadPort": (
+        "its ingress port or its output port is neither a host port nor a link's end of {switch} in the topology"
+    ),
     "ReservedVlan": "its VLAN is one of the tags of the topology, and isn't declared",
     "KeyTwice": "an earlier entry of {switch} has the same priority and match{other}",
-    "Overlap": "an earlier entry of {switch} has the same priority, and some packet matches both{other}: OpenFlow leaves open which one counts",
+    "Overlap": (
+        "an earlier entry of {switch} has the same priority, and some packet matches both{other}: OpenFlow leaves open"
+        " which one counts"
+    ),
 }
 
 
@@ -48,8 +56,11 @@ class Table:
         text = FlowText(read_text(path), switch)
         self.faults += [f"{path}:{number}: {switch}: the line {why}" for number, why in text.bad]
         if text.is_version_1_0:
-            say(f"{path}: note: this is an answer by OpenFlow 1.0, which shows some matches wider than they are, as masks, registers and connection states; it is "
-                "taken at its word. `ovs-ofctl dump-flows` without `-O` and `-F` shows them all")
+            say(
+                f"{path}: note: this is an answer by OpenFlow 1.0, which shows some matches wider than they are, as"
+                " masks, registers and connection states; it is taken at its word. `ovs-ofctl dump-flows` without `-O`"
+                " and `-F` shows them all"
+            )
         if not text.entries and not text.bad:
             say(f"{path}: note: there is no entry in it; the table of {switch} is taken to be empty")
         for entry in text.entries:
@@ -76,7 +87,8 @@ class Table:
         pieces = [self.kept[at:at + ENTRIES_PER_MESSAGE] for at in range(0, len(self.kept), ENTRIES_PER_MESSAGE)]
         for number, piece in enumerate(pieces, 1):
             body = b"".join(Entry(entry.data()).normalised() for entry in piece)
-            yield f"{self.switch} {(struct.pack('!BBHIHH', 1, 17, 12 + len(body), 1, 1, number < len(pieces)) + body).hex()}\n"
+            head = struct.pack("!BBHIHH", 1, 17, 12 + len(body), 1, 1, number < len(pieces))
+            yield f"{self.switch} {(head + body).hex()}\n"
 
 
 def names_of(path: str) -> list[str]:
@@ -96,14 +108,18 @@ def read_tables(topology: str, given: Sequence[str], may_drop: bool) -> list[Tab
         if not switch or not path:
             raise NotConverted(f"{word!r} isn't BRIDGE=FILE", status=2)
         if switch not in names:
-            raise NotConverted(f"{topology} has no switch {switch}{nearest(switch, names)}", "name the bridge as the topology does", 2)
+            raise NotConverted(
+                f"{topology} has no switch {switch}{nearest(switch, names)}", "name the bridge as the topology does", 2
+            )
         if switch in found:
             raise NotConverted(f"{switch} is given twice", status=2)
         found[switch] = path
     missing = [name for name in names if name not in found]
     if missing:
-        raise NotConverted(f"no file is given for {', '.join(missing)}, and {topology} has {'it' if len(missing) == 1 else 'them'}",
-                      f"give `{missing[0]}=FILE`, or `{missing[0]}=/dev/null` where its table is empty", WRONG_WORDS)
+        raise NotConverted(
+            f"no file is given for {', '.join(missing)}, and {topology} has {'it' if len(missing) == 1 else 'them'}",
+            f"give `{missing[0]}=FILE`, or `{missing[0]}=/dev/null` where its table is empty", WRONG_WORDS,
+        )
     return [Table(switch, path, may_drop) for switch, path in found.items()]
 
 
@@ -118,7 +134,9 @@ def refuse_faults(tables: Sequence[Table]) -> None:
         then = "--drop-unsayable leaves them out: no IPv4 packet fares otherwise without them"
     elif droppable:
         then += f". --drop-unsayable leaves out {droppable} of them, without which no IPv4 packet fares otherwise"
-    raise NotConverted([*faults, f"{len(faults)} of the lines can't be said in a configuration: they stand above"], then, REFUSED)
+    raise NotConverted(
+        [*faults, f"{len(faults)} of the lines can't be said in a configuration: they stand above"], then, REFUSED
+    )
 
 
 def other_of(entry: TextEntry, table: Table, word: str) -> str:
@@ -127,8 +145,11 @@ def other_of(entry: TextEntry, table: Table, word: str) -> str:
     for other in table.kept[:table.kept.index(entry)]:
         test = Entry(other.data()).test()
         short = min(length, test[4])
-        meets = (test[0] == priority and all("any" in (one, two) or one == two for one, two in ((in_port, test[1]), (vlan, test[2])))
-                 and (base ^ test[3]) >> 32 - short == 0)
+        meets = (
+            test[0] == priority
+            and all("any" in (one, two) or one == two for one, two in ((in_port, test[1]), (vlan, test[2])))
+            and (base ^ test[3]) >> 32 - short == 0
+        )
         if test == (priority, in_port, vlan, base, length) if word == "KeyTwice" else meets:
             return f" (line {other.number}: {other.words})"
     return ""
@@ -164,17 +185,33 @@ def configuration(topology: str, tables: Sequence[Table]) -> str:
             raise NotConverted(str(fault), status=program.NO_PROGRAM) from fault
     if status != 0:
         why = import_fault(text, topology, tables)
-        raise NotConverted(why.replace("bad topology:", f"{topology}: bad topology:"), status=status if status in (REFUSED, BAD_FILE, UNREADABLE, 9) else program.NO_PROGRAM)
+        raise NotConverted(
+            why.replace("bad topology:", f"{topology}: bad topology:"),
+            status=status if status in (REFUSED, BAD_FILE, UNREADABLE, 9) else program.NO_PROGRAM,
+        )
     return text
 
 
 def convert(words: Sequence[str]) -> str:
-    parser = argparse.ArgumentParser(prog="planner from-ofctl", description="Makes a configuration of the text of `ovs-ofctl dump-flows BRIDGE`, and writes it.")
+    parser = argparse.ArgumentParser(
+        prog="planner from-ofctl",
+        description="Makes a configuration of the text of `ovs-ofctl dump-flows BRIDGE`, and writes it.",
+    )
     parser.add_argument("topology", metavar="TOPOLOGY")
-    parser.add_argument("tables", metavar="BRIDGE=FILE", nargs="+", help="a switch of the topology, and the text of its table; - is the standard input. Each switch has to be given: one without "
-                        "entries by `SWITCH=/dev/null`")
-    parser.add_argument("--drop-unsayable", action="store_true", help="leave out entries for other packets than IPv4, and entries of priority 0 that do what a miss "
-                        "does; everything else that can't be said is refused all the same")
+    parser.add_argument(
+        "tables", metavar="BRIDGE=FILE", nargs="+",
+        help=(
+            "a switch of the topology, and the text of its table; - is the standard input. Each switch has to be given:"
+            " one without entries by `SWITCH=/dev/null`"
+        ),
+    )
+    parser.add_argument(
+        "--drop-unsayable", action="store_true",
+        help=(
+            "leave out entries for other packets than IPv4, and entries of priority 0 that do what a miss "
+            "does; everything else that can't be said is refused all the same"
+        ),
+    )
     options = parser.parse_args(words)
     if os.path.isdir(options.topology):
         options.topology = os.path.join(options.topology, "topology.json")

@@ -1,6 +1,8 @@
-"""`planner to-ofctl`: writes the rounds of a plan as commands of `ovs-ofctl`, a script for each round, for networks without a controller.
+"""`planner to-ofctl`: writes the rounds of a plan as commands of `ovs-ofctl`, a script for each round, for networks
+without a controller.
 
-Each command is strict: it names one entry by its priority and match, and says the same to the switch as the message that `planner emit` writes.
+Each command is strict: it names one entry by its priority and match, and says the same to the switch as the message
+that `planner emit` writes.
 """
 from __future__ import annotations
 
@@ -19,7 +21,8 @@ TYPE_CHECKING = False
 if TYPE_CHECKING:
     from typing import Any, Sequence
 
-# The command for each change. `ovs-ofctl` waits for the barrier reply of the switch before it ends, and its status tells of an error.
+# The command for each change. `ovs-ofctl` waits for the barrier reply of the switch before it ends, and its status
+# tells of an error.
 COMMANDS = {"insert": "add-flow", "replace": "--strict mod-flows", "delete": "--strict del-flows"}
 
 
@@ -54,11 +57,15 @@ def command_of(do: str, rule: dict[str, Any], targets: dict[str, str]) -> str:
     """The line that makes a change."""
     match = match_of(rule)
     flow = match if do == "delete" else f"{match},actions={actions_of(rule)}"
-    return f"ovs-ofctl -O OpenFlow10 {COMMANDS[do]} {shlex.quote(targets.get(rule['switch'], rule['switch']))} {shlex.quote(flow)}"
+    return (
+        "ovs-ofctl -O OpenFlow10"
+        f" {COMMANDS[do]} {shlex.quote(targets.get(rule['switch'], rule['switch']))} {shlex.quote(flow)}"
+    )
 
 
 def refused(path: str) -> str | None:
-    """Why `planner check` refuses a plan, in its words, or None; the files of the update are looked for beside the plan, and in the folder above an update's."""
+    """Why `planner check` refuses a plan, in its words, or None; the files of the update are looked for beside the
+    plan, and in the folder above an update's."""
     folder = os.path.dirname(path) or "."
     beside_it = [beside(folder, IN_FOLDER[word]) for word in ("TOPO", "OLD", "NEW", "POLICY")]
     files = [one for one in beside_it if one is not None]
@@ -74,15 +81,30 @@ def refused(path: str) -> str | None:
     if status == 0:
         return None
     said = "; ".join(text.splitlines())
-    say(f"{path}: warning: `planner check` refuses it: {said}. The scripts are written all the same; what holds of a plan that it accepts isn't said of them")
+    say(
+        f"{path}: warning: `planner check` refuses it: {said}. The scripts are written all the same; what holds of a"
+        " plan that it accepts isn't said of them"
+    )
     return said
 
 
-def script_of(number: int, rounds: Sequence[Sequence[tuple[str, dict[str, Any]]]], plan: str, targets: dict[str, str], why: str | None = None) -> str:
+def script_of(
+    number: int, rounds: Sequence[Sequence[tuple[str, dict[str, Any]]]], plan: str, targets: dict[str, str],
+    why: str | None = None,
+) -> str:
     """The script of a round."""
     changes = rounds[number - 1]
-    lines = ["#!/bin/sh", f"# Round {number} of {len(rounds)} of {os.path.basename(plan).translate({10: ' ', 13: ' '})}: {len(changes)} changes, in any order.",
-             "# Begin when the round before is done and the packets that entered before that have left; where a command fails, see to it and run this again."]
+    lines = [
+        "#!/bin/sh",
+        (
+            f"# Round {number} of {len(rounds)} of {os.path.basename(plan).translate({10: ' ', 13: ' '})}:"
+            f" {len(changes)} changes, in any order."
+        ),
+        (
+            "# Begin when the round before is done and the packets that entered before that have left; where a command"
+            " fails, see to it and run this again."
+        ),
+    ]
     lines += [f"# `planner check refuses it`: {why}".replace("`", "")] if why else []
     lines.append("set -e")
     lines += [command_of(do, rule, targets) for do, rule in changes]
@@ -97,7 +119,11 @@ def read_targets(path: str) -> dict[str, str]:
         if words and not 2 <= len(words) <= 3:
             raise NotConverted(f"{path}:{number}: not `NAME DATAPATH [HOST:PORT]`")
         try:
-            targets |= {words[0]: f"tcp:{address_words(listed_address(words[2], f'{path}:{number}'))}"} if len(words) == 3 else {}
+            targets |= (
+                {words[0]: f"tcp:{address_words(listed_address(words[2], f'{path}:{number}'))}"}
+                if len(words) == 3
+                else {}
+            )
         except Stop as stop:
             raise NotConverted(stop.what, stop.then) from None
     return targets
@@ -114,24 +140,42 @@ def write_scripts(folder: str, scripts: Sequence[tuple[str, str]]) -> None:
                 file.write(text)
             os.chmod(file.name, 0o755)
     except OSError as fault:
-        raise NotConverted(f"{fault.filename or folder}: it can't be written: {fault.strerror}", status=UNWRITABLE) from fault
+        raise NotConverted(
+            f"{fault.filename or folder}: it can't be written: {fault.strerror}", status=UNWRITABLE
+        ) from fault
 
 
 def convert(words: Sequence[str]) -> str:
-    parser = argparse.ArgumentParser(prog="planner to-ofctl", description="Writes the rounds of a plan as commands of `ovs-ofctl`, a script for each round.")
+    parser = argparse.ArgumentParser(
+        prog="planner to-ofctl",
+        description="Writes the rounds of a plan as commands of `ovs-ofctl`, a script for each round.",
+    )
     parser.add_argument("plan", metavar="PLAN")
-    parser.add_argument("folder", metavar="FOLDER", nargs="?", help="where the scripts are written, a new or an empty folder; PLAN without its ending, and `-rounds`")
-    parser.add_argument("--switches", metavar="FILE", help="lines `NAME DATAPATH HOST:PORT`, as for `planner apply`: a switch is reached there; otherwise it is a bridge of "
-                        "its name on this machine")
+    parser.add_argument(
+        "folder", metavar="FOLDER", nargs="?",
+        help="where the scripts are written, a new or an empty folder; PLAN without its ending, and `-rounds`",
+    )
+    parser.add_argument(
+        "--switches", metavar="FILE",
+        help=(
+            "lines `NAME DATAPATH HOST:PORT`, as for `planner apply`: a switch is reached there; otherwise it is a"
+            " bridge of its name on this machine"
+        ),
+    )
     options = parser.parse_args(words)
     rounds, targets = rounds_of(options.plan), read_targets(options.switches) if options.switches else {}
     wide = max(2, len(str(len(rounds))))
     try:
         [script_of(number, rounds, options.plan, targets) for number in range(1, len(rounds) + 1)]
         why = refused(options.plan)
-        scripts = [(f"round-{number:0{wide}}.sh", script_of(number, rounds, options.plan, targets, why)) for number in range(1, len(rounds) + 1)]
+        scripts = [
+            (f"round-{number:0{wide}}.sh", script_of(number, rounds, options.plan, targets, why))
+            for number in range(1, len(rounds) + 1)
+        ]
     except (KeyError, TypeError, AttributeError) as fault:
-        raise NotConverted(f"{options.plan}: a change of it can't be read", "`planner check` says what of it can't be read") from fault
+        raise NotConverted(
+            f"{options.plan}: a change of it can't be read", "`planner check` says what of it can't be read"
+        ) from fault
     folder = options.folder or f"{os.path.splitext(os.path.basename(options.plan))[0]}-rounds"
     write_scripts(folder, scripts)
     return "".join(f"{os.path.join(folder, name)}\n" for name, _ in scripts)

@@ -9,7 +9,8 @@ if TYPE_CHECKING:
 
     from planner_tools.convert.from_graphml import Graph
 
-# The radius of the earth in km, and the speed in bits a second at which a link counts 1, as routers have it for links of that speed.
+# The radius of the earth in km, and the speed in bits a second at which a link counts 1, as routers have it for links
+# of that speed.
 EARTH, REFERENCE = 6371.0, 1e11
 # The members of an edge that say how long it is, in small letters.
 LENGTHS = ("distance", "length", "linklength", "dist")
@@ -36,14 +37,18 @@ def place(values: dict[str, str]) -> list[float] | None:
 
 
 def distance(edge: dict[str, str], one: dict[str, str], other: dict[str, str]) -> float | None:
-    """The length of an edge: what it says, otherwise that of the great circle between its nodes, in km; None where neither is told."""
+    """The length of an edge: what it says, otherwise that of the great circle between its nodes, in km; None where
+    neither is told."""
     named = {name.lower(): value for name, value in edge.items() if name}
     told = next((number(named[name]) for name in LENGTHS if number(named.get(name)) is not None), None)
     end, other_end = place(one), place(other)
     if told is not None or end is None or other_end is None:
         return told
     (north, east), (other_north, other_east) = end, other_end
-    half = math.sin((other_north - north) / 2) ** 2 + math.cos(north) * math.cos(other_north) * math.sin((other_east - east) / 2) ** 2
+    half = (
+        math.sin((other_north - north) / 2) ** 2
+        + math.cos(north) * math.cos(other_north) * math.sin((other_east - east) / 2) ** 2
+    )
     return 2 * EARTH * math.asin(min(1.0, math.sqrt(half)))
 
 
@@ -55,11 +60,17 @@ def speed(edge: dict[str, str], _one: dict[Any, Any], _other: dict[Any, Any]) ->
     return None if bits is None else REFERENCE / bits
 
 
-HEADS = {distance: "# The ends of each link, and its length, in km where the graph has no other.", speed: "# The ends of each link, and 100 Gbit/s over its speed."}
+HEADS = {
+    distance: "# The ends of each link, and its length, in km where the graph has no other.",
+    speed: "# The ends of each link, and 100 Gbit/s over its speed.",
+}
 
 
-def weights_text(measure: Callable[..., Any], graph: Graph, links: Sequence[tuple[list[str], int]]) -> tuple[str, list[str]]:
-    """The file of weights for `planner route`, and the links that have none. `links` has the ends of each with the number of its edge."""
+def weights_text(
+    measure: Callable[..., Any], graph: Graph, links: Sequence[tuple[list[str], int]]
+) -> tuple[str, list[str]]:
+    """The file of weights for `planner route`, and the links that have none. `links` has the ends of each with the
+    number of its edge."""
     lines, lacking = [HEADS[measure]], []
     for ends, at in links:
         weight = measure(graph.edge_values[at], *(graph.nodes[node] for node in graph.edges[at]))

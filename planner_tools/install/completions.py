@@ -12,12 +12,20 @@ COMMON_FLAGS = " ".join(["--help", *(flag.split()[0] for flag, _ in COMMON)])
 
 def counts() -> dict[str, int]:
     """How many names of files stand behind each command."""
-    return {command.name: sum(word in words.FILES or word == "FILE" for word in command.words()[0]) for command in words.COMMANDS}
+    return {
+        command.name: sum(word in words.FILES or word == "FILE" for word in command.words()[0])
+        for command in words.COMMANDS
+    }
 
 
 def chosen_words() -> dict[str, tuple[str, str]]:
     """What the words may be that are no names of files and of which there are few, by their command."""
-    return {command.name: words.CHOICES[word] for command in words.COMMANDS for word in command.words()[0] if word in words.CHOICES}
+    return {
+        command.name: words.CHOICES[word]
+        for command in words.COMMANDS
+        for word in command.words()[0]
+        if word in words.CHOICES
+    }
 
 
 def short(text: str) -> str:
@@ -35,7 +43,9 @@ def zsh() -> str:
     listed = "\n".join(f"        {quoted(command.name + ':' + short(command.answer))}" for command in words.COMMANDS)
     own = "\n".join(f"            {name}) compadd -- {flags_of(name)} ;;" for name in words.OWN_OPTIONS)
     without = " | ".join(name for name, count in counts().items() if not count) or "none"
-    chosen = "\n".join(f"        {name}) compadd -- {' '.join(choices)}; _files ;;" for name, choices in chosen_words().items())
+    chosen = "\n".join(
+        f"        {name}) compadd -- {' '.join(choices)}; _files ;;" for name, choices in chosen_words().items()
+    )
     return f"""#compdef planner
 # Completes the words of the planner in zsh.
 
@@ -72,12 +82,25 @@ def fish() -> str:
     with_files = " ".join(name for name, count in counts().items() if count)
     first = f"not __fish_seen_subcommand_from {names}"
     lines = ["# Completes the words of the planner in fish.", "complete -c planner -f"]
-    lines += [f"complete -c planner -n {quoted(first)} -a {quoted(command.name)} -d {quoted(short(command.answer))}" for command in words.COMMANDS]
+    lines += [
+        f"complete -c planner -n {quoted(first)} -a {quoted(command.name)} -d {quoted(short(command.answer))}"
+        for command in words.COMMANDS
+    ]
     lines += [f"complete -c planner -n {quoted(first)} -l {flag.lstrip('-')}" for flag in FLAGS]
-    lines += [f"complete -c planner -n {quoted('__fish_seen_subcommand_from ' + name)} -l {flag.split()[0].lstrip('-')} -d {quoted(short(text))}"
-              for name, options in words.OWN_OPTIONS.items() for flag, text in options]
-    lines += [f"complete -c planner -n {quoted('__fish_seen_subcommand_from ' + name)} -a {quoted(' '.join(choices))}" for name, choices in chosen_words().items()]
-    lines += [f"complete -c planner -n {quoted('__fish_seen_subcommand_from ' + names)} {'-l' if flag.startswith('--') else '-o'} {flag.split()[0].lstrip('-')} -d {quoted(short(text))}"
-              for flag, text in [("--help", "more of the command"), *COMMON]]
+    lines += [
+        f"complete -c planner -n {quoted('__fish_seen_subcommand_from ' + name)} -l {flag.split()[0].lstrip('-')} -d"
+        f" {quoted(short(text))}"
+        for name, options in words.OWN_OPTIONS.items()
+        for flag, text in options
+    ]
+    lines += [
+        f"complete -c planner -n {quoted('__fish_seen_subcommand_from ' + name)} -a {quoted(' '.join(choices))}"
+        for name, choices in chosen_words().items()
+    ]
+    lines += [
+        f"complete -c planner -n {quoted('__fish_seen_subcommand_from ' + names)}"
+        f" {'-l' if flag.startswith('--') else '-o'} {flag.split()[0].lstrip('-')} -d {quoted(short(text))}"
+        for flag, text in [("--help", "more of the command"), *COMMON]
+    ]
     lines.append(f"complete -c planner -n {quoted('__fish_seen_subcommand_from ' + with_files)} -F")
     return "\n".join(lines) + "\n"

@@ -26,13 +26,19 @@ PROGRAM_NAME = "planner_cli"
 
 def tree(root: str, built: str) -> dict[str, str]:
     """Where each file comes from, by its place under the prefix: a path, or a text that is made."""
-    found = {f"{LIBRARY}/planner": os.path.join(root, "planner"), f"{LIBRARY}/{PROGRAM_NAME}": built, f"{LIBRARY}/toolchain.txt": os.path.join(root, "toolchain.txt")}
+    found = {
+        f"{LIBRARY}/planner": os.path.join(root, "planner"), f"{LIBRARY}/{PROGRAM_NAME}": built,
+        f"{LIBRARY}/toolchain.txt": os.path.join(root, "toolchain.txt"),
+    }
     for path in under(root, "planner_tools"):
         if path.endswith(SOURCES) and "tests" not in path.split("/"):
             found[f"{LIBRARY}/{path}"] = os.path.join(root, path)
     for path in under(root, "library/planner"):
         found[f"{LIBRARY}/{path}"] = os.path.join(root, path)
-    for path in (*FROM_ROOT, *under(root, "examples"), *(path for path in under(root, "docs") if path.endswith(FROM_DOCS)), *linked(root)):
+    for path in (
+        *FROM_ROOT, *under(root, "examples"), *(path for path in under(root, "docs") if path.endswith(FROM_DOCS)),
+        *linked(root),
+    ):
         if os.path.exists(os.path.join(root, path)):
             found[f"{DOCUMENTS}/{path}"] = os.path.join(root, path)
     return found
@@ -41,12 +47,17 @@ def tree(root: str, built: str) -> dict[str, str]:
 def linked(root: str) -> list[str]:
     """The files that README.md links to."""
     with open(os.path.join(root, "README.md"), encoding="utf-8") as file:
-        return sorted(path for path in set(re.findall(r"\]\(([^)#]+)", file.read())) if os.path.isfile(os.path.join(root, path)))
+        return sorted(
+            path for path in set(re.findall(r"\]\(([^)#]+)", file.read())) if os.path.isfile(os.path.join(root, path))
+        )
 
 
 def made(day: str, zsh_folder: str = "share/zsh/site-functions") -> dict[str, bytes]:
     """The texts that are made, by their place under the prefix."""
-    found = {f"share/man/man1/{name}.gz": packed(text) for name, text in {"planner.1": manual.manual(), **manuals.all_pages(day)}.items()}
+    found = {
+        f"share/man/man1/{name}.gz": packed(text)
+        for name, text in {"planner.1": manual.manual(), **manuals.all_pages(day)}.items()
+    }
     found["share/bash-completion/completions/planner"] = manual.completion().encode()
     found[f"{zsh_folder}/_planner"] = completions.zsh().encode()
     found["share/fish/vendor_completions.d/planner.fish"] = completions.fish().encode()
@@ -72,7 +83,12 @@ def put(prefix: str, root: str, built: str, day: str, **more: str) -> list[str]:
     for place, source in files.items():
         target = room_for(prefix, place)
         shutil.copyfile(source, target)
-        os.chmod(target, 0o755 if os.stat(source).st_mode & stat.S_IXUSR and place in (f"{LIBRARY}/planner", f"{LIBRARY}/{PROGRAM_NAME}") else 0o644)
+        os.chmod(
+            target,
+            0o755
+            if os.stat(source).st_mode & stat.S_IXUSR and place in (f"{LIBRARY}/planner", f"{LIBRARY}/{PROGRAM_NAME}")
+            else 0o644,
+        )
     for place, data in texts.items():
         target = room_for(prefix, place)
         with open(target, "wb") as file:
@@ -93,13 +109,17 @@ def room_for(prefix: str, place: str) -> str:
 
 
 def day_of(root: str) -> str:
-    """The day of the texts that are made: that of the newest version in the list of changes, or of SOURCE_DATE_EPOCH."""
+    """The day of the texts that are made: that of the newest version in the list of changes, or of
+    SOURCE_DATE_EPOCH."""
     if os.environ.get("SOURCE_DATE_EPOCH"):
-        return datetime.datetime.fromtimestamp(int(os.environ["SOURCE_DATE_EPOCH"]), datetime.timezone.utc).strftime("%Y-%m-%d")
+        return datetime.datetime.fromtimestamp(int(os.environ["SOURCE_DATE_EPOCH"]), datetime.timezone.utc).strftime(
+            "%Y-%m-%d"
+        )
     with open(os.path.join(root, "CHANGELOG.md"), encoding="utf-8") as file:
         return next(line.split()[-1] for line in file if re.match(r"## \d", line))
 
 
 def program_to_install() -> str:
-    """The program that is installed: the one that PLANNER names, or that of the checkout: the one of dist/, or one that is built where it is missing or stale."""
+    """The program that is installed: the one that PLANNER names, or that of the checkout: the one of dist/, or one that
+    is built where it is missing or stale."""
     return program.built()

@@ -14,9 +14,17 @@ def name_of(command: words.Command) -> str:
 def page(command: words.Command, day: str) -> str:
     """The manual page of a command. The day is that of the page, as 2026-11-29."""
     answer = escaped(command.answer).replace("\n", " ")
-    lines = [f'.TH {name_of(command).upper()} 1 "{day}" "planner {VERSION}" "User commands"', ".SH NAME", f"{name_of(command).replace('-', chr(92) + '-')} \\- {answer}", ".SH SYNOPSIS",
-             f"\\fBplanner {command.name.replace('-', chr(92) + '-')}\\fP {usage_line(command)}", ".SH DESCRIPTION", escaped(command.text), ".PP",
-             escaped("This command is one of the proved program." if command.is_proved else "This command is one of the front end, which is tested and not proved.")]
+    lines = [
+        f'.TH {name_of(command).upper()} 1 "{day}" "planner {VERSION}" "User commands"', ".SH NAME",
+        f"{name_of(command).replace('-', chr(92) + '-')} \\- {answer}", ".SH SYNOPSIS",
+        f"\\fBplanner {command.name.replace('-', chr(92) + '-')}\\fP {usage_line(command)}", ".SH DESCRIPTION",
+        escaped(command.text), ".PP",
+        escaped(
+            "This command is one of the proved program."
+            if command.is_proved
+            else "This command is one of the front end, which is tested and not proved."
+        ),
+    ]
     own = words.OWN_OPTIONS.get(command.name, [])
     lines += [".SH OPTIONS"] if own else []
     for flag, text in own:

@@ -1,4 +1,5 @@
-"""The toolchains with which the program is proved and built, and the oldest Python for the scripts: those that toolchain.txt names."""
+"""The toolchains with which the program is proved and built, and the oldest Python for the scripts: those that
+toolchain.txt names."""
 from __future__ import annotations
 
 import hashlib
@@ -45,13 +46,23 @@ def difference(root: str = program.ROOT) -> str | None:
 
 
 def origin(built: str) -> str:
-    """A sentence on where a program comes from. That it was proved is said of those alone that one of the checkout's own toolchains built from its files:
-    the one of dist/, where its sums are right, and the one that was built there."""
+    """A sentence on where a program comes from. That it was proved is said of those alone that one of the checkout's
+    own toolchains built from its files: the one of dist/, where its sums are right, and the one that was built
+    there."""
     if os.path.realpath(built) == os.path.realpath(program.SHIPPED) and not shipped.why_not(program.ROOT):
-        return (f"The program is that of the repository's folder {shipped.FOLDER}/: the toolchain {shipped.said(program.ROOT)['toolchain']} built it from the "
-                "sources of this version, which it does only where each of its functions is proved to meet its contract.")
+        return (
+            f"The program is that of the repository's folder {shipped.FOLDER}/: the toolchain"
+            f" {shipped.said(program.ROOT)['toolchain']} built it from the sources of this version, which it does only"
+            " where each of its functions is proved to meet its contract."
+        )
     found = on_this_machine()
     if os.path.realpath(built) == os.path.realpath(program.BUILT) and found in toolchains():
-        return f"The program was built with the toolchain {found}, which builds it only where each of its functions is proved to meet its contract."
+        return (
+            f"The program was built with the toolchain {found}, which builds it only where each of its functions is"
+            " proved to meet its contract."
+        )
     with open(built, "rb") as file:
-        return f"The program wasn't built here: the packager named one with the sum sha256 {hashlib.sha256(file.read()).hexdigest()}."
+        return (
+            "The program wasn't built here: the packager named one with the sum sha256"
+            f" {hashlib.sha256(file.read()).hexdigest()}."
+        )

@@ -24,28 +24,33 @@ WRONG_WORDS, BAD_FILE, UNREAD = 2, 3, 6
 
 
 def files_of(name: str, typed: Sequence[str]) -> dict[str, Given]:
-    """The files that the words of a command name, by their words in its usage: a folder stands for the names that are left out, `-` for the standard input."""
+    """The files that the words of a command name, by their words in its usage: a folder stands for the names that are
+    left out, `-` for the standard input."""
     usage = re.split(r" \[?--", BY_NAME[name].usage)[0]
     run = Run([name, *typed], REFUSALS)
     run.command = Command(name, usage, "", "")
     wanted, least = run.command.words()
     run.resolve()
     if len(run.files) < least or len(typed) > len(wanted):
-        raise Unable(f"{name}: the words are {usage}, and there are {'more' if len(typed) > len(wanted) else 'fewer'}", WRONG_WORDS, [f"planner {name} {BY_NAME[name].usage}"])
+        raise Unable(
+            f"{name}: the words are {usage}, and there are {'more' if len(typed) > len(wanted) else 'fewer'}",
+            WRONG_WORDS, [f"planner {name} {BY_NAME[name].usage}"],
+        )
     for file in run.files.values():
         file.kept = run.spooled          # what came from the standard input is there as long as this
     return run.files
 
 
 def beside(folder: str, name: str) -> Given:
-    """A file that an option names: where the first word is a folder and the name is no file, but one of the folder, it is that one."""
+    """A file that an option names: where the first word is a folder and the name is no file, but one of the folder, it
+    is that one."""
     found = inside(folder, name) if folder is not None and os.path.isdir(folder) else name
     return found if isinstance(found, Given) else Given(name, name)
 
 
 def asked(command: str, good: Sequence[int] = (0,), **files: Given | None) -> str:
-    """What the program writes for a command over files, which are given by the words of its usage. Where its status is no good one it is said why, and it is
-    Unable."""
+    """What the program writes for a command over files, which are given by the words of its usage. Where its status is
+    no good one it is said why, and it is Unable."""
     run = Run([command], REFUSALS)
     run.files = {word: file for word, file in files.items() if file is not None}
     run.passed = [command, *(file.real for file in run.files.values())]
@@ -86,7 +91,8 @@ def text_of(file: Given) -> str:
 
 
 class Told(Voice):
-    """Says notes and warnings, and knows whether it has warned. Where warnings end it, they are said also by a quiet one."""
+    """Says notes and warnings, and knows whether it has warned. Where warnings end it, they are said also by a quiet
+    one."""
 
     def __init__(self, options: Options) -> None:
         super().__init__(is_quiet=options.is_quiet)
@@ -101,7 +107,8 @@ class Told(Voice):
 
 
 def done(work: Callable[..., Any], words: Sequence[str]) -> int:
-    """Does the work of a command, which takes its words and a voice and returns the exit status and the text to write, and returns the status."""
+    """Does the work of a command, which takes its words and a voice and returns the exit status and the text to write,
+    and returns the status."""
     from planner_tools.main import take_options
     options, words = take_options(words)
     voice = Told(options)

@@ -1,7 +1,8 @@
-"""Where every class of packets goes, as `paths` of the program says it; and the classes of two configurations side by side.
+"""Where every class of packets goes, as `paths` of the program says it; and the classes of two configurations side by
+side.
 
-The classes of a configuration are those that its own rules tell apart, and the demands of the policy that is given. Two configurations side by side have
-the boundaries of both, as the classes of `check` have.
+The classes of a configuration are those that its own rules tell apart, and the demands of the policy that is given. Two
+configurations side by side have the boundaries of both, as the classes of `check` have.
 """
 from __future__ import annotations
 
@@ -15,7 +16,8 @@ if TYPE_CHECKING:
 
 ENDS = ("left", "dropped", "again")
 LAST = (1 << 32) - 1
-# A range of addresses that is made of more prefixes than this, or of greater ones, is told by its first and its last address.
+# A range of addresses that is made of more prefixes than this, or of greater ones, is told by its first and its last
+# address.
 FEW, GREATEST = 3, 8
 
 
@@ -26,7 +28,8 @@ def number_of(address: str) -> int:
 
 
 class Way:
-    """A path: the text of its stops, how it ends, and where: the host port of `left`, the switch of `dropped` and `again`."""
+    """A path: the text of its stops, how it ends, and where: the host port of `left`, the switch of `dropped` and
+    `again`."""
 
     __slots__ = ("stops", "end", "at", "key")
 
@@ -47,7 +50,8 @@ class Way:
         return self.end == "left"
 
     def following(self) -> dict[str, Any]:
-        """Behind each stop what follows: the next stop, or the end. Of a path that comes to a switch again the last stop has nothing behind it."""
+        """Behind each stop what follows: the next stop, or the end. Of a path that comes to a switch again the last
+        stop has nothing behind it."""
         places = self.places()
         after: dict[str, Any] = dict(zip(places, places[1:]))
         if self.end != "again":
@@ -56,7 +60,8 @@ class Way:
 
 
 class Paths:
-    """What `paths` wrote: the host ports with their VLANs, the first addresses of the atoms, and for each host port and VLAN the way and the mark of each."""
+    """What `paths` wrote: the host ports with their VLANs, the first addresses of the atoms, and for each host port and
+    VLAN the way and the mark of each."""
 
     def __init__(self, text: str) -> None:
         self.ways: dict[tuple[str, str], list[Way]] = {}
@@ -175,15 +180,17 @@ def range_words(some: Sequence[tuple[int, int]]) -> list[str]:
     for first, last in some:
         mine = blocks(first, last)
         is_told = len(mine) == 1 or len(mine) <= FEW and min(length for _, length in mine) >= GREATEST
-        found += [prefix_text(*block) for block in mine] if is_told else [f"{nets.address(first)} to {nets.address(last)}"]
+        found += (
+            [prefix_text(*block) for block in mine] if is_told else [f"{nets.address(first)} to {nets.address(last)}"]
+        )
     return found
 
 
 # ---- host ports and VLANs
 
 def grouped(by_entry: dict[tuple[str, str], Any]) -> list[tuple[list[str], list[str], Any]]:
-    """Host ports with VLANs that have the same value, put together: lists of host ports, VLANs and the value, each host port with each of the VLANs. The
-    values are given by (host port, VLAN)."""
+    """Host ports with VLANs that have the same value, put together: lists of host ports, VLANs and the value, each host
+    port with each of the VLANs. The values are given by (host port, VLAN)."""
     by_value: dict[tuple[int | tuple[int, int], ...], Any] = {}
     for (host, vlan), value in by_entry.items():
         by_value.setdefault(value, {}).setdefault(host, []).append(vlan)
@@ -207,7 +214,15 @@ def vlan_words(vlans: Sequence[str], of: Sequence[str]) -> str:
         return ""
     if len(vlans) == len(of):
         return "any VLAN"
-    return " and ".join(filter(None, ("untagged" if "untagged" in vlans else "", ", ".join(f"VLAN {vlan}" for vlan in vlans if vlan != "untagged"))))
+    return " and ".join(
+        filter(
+            None,
+            (
+                "untagged" if "untagged" in vlans else "",
+                ", ".join(f"VLAN {vlan}" for vlan in vlans if vlan != "untagged"),
+            ),
+        )
+    )
 
 
 def shortened(names: Sequence[str], most: int) -> str:

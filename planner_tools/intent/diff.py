@@ -17,7 +17,9 @@ from planner_tools import network as nets
 from planner_tools import program
 from planner_tools.files import counted
 from planner_tools.intent.asking import asked, done, files_of, network_of, rules_of
-from planner_tools.intent.classes import Beside, Paths, grouped, joined, prefixes, range_words, ranges, shortened, vlan_value, vlan_words
+from planner_tools.intent.classes import (
+    Beside, Paths, grouped, joined, prefixes, range_words, ranges, shortened, vlan_value, vlan_words,
+)
 from planner_tools.intent.lookup import Tables
 from planner_tools.proved import Given, Unable
 
@@ -30,8 +32,14 @@ if TYPE_CHECKING:
     from planner_tools.network import Network
 
 # What may become of a class, in the order in which it is told: the word for machines, and words of the count.
-KINDS = {"lost": "arrive no more", "gained": "arrive now and didn't", "elsewhere": "leave at another host port", "way": "go another way", "stopped": "are stopped elsewhere"}
-HEADS = {"lost": "no more:", "gained": "now, and not before:", "elsewhere": "at another host port:", "way": "another way:", "stopped": "stopped elsewhere:"}
+KINDS = {
+    "lost": "arrive no more", "gained": "arrive now and didn't", "elsewhere": "leave at another host port",
+    "way": "go another way", "stopped": "are stopped elsewhere",
+}
+HEADS = {
+    "lost": "no more:", "gained": "now, and not before:", "elsewhere": "at another host port:", "way": "another way:",
+    "stopped": "stopped elsewhere:",
+}
 # So many host ports, prefixes and rules of a line are told.
 TOLD = 8
 # So many lines a summary has for what changes.
@@ -54,10 +62,16 @@ def turns(old: Way, new: Way) -> list[str]:
 
 
 class Change:
-    """What changes alike for some classes: host ports with VLANs and ranges, both ways, how either breaks the policy, and the rules at each turn."""
+    """What changes alike for some classes: host ports with VLANs and ranges, both ways, how either breaks the policy,
+    and the rules at each turn."""
 
-    def __init__(self, hosts: Sequence[str], vlans: Sequence[str], found: Sequence[tuple[int, int]], old: Way, new: Way, breaks: tuple[str | None, str | None], count: int) -> None:
-        self.hosts, self.vlans, self.ranges, self.old, self.new, self.breaks, self.count = hosts, vlans, found, old, new, breaks, count
+    def __init__(
+        self, hosts: Sequence[str], vlans: Sequence[str], found: Sequence[tuple[int, int]], old: Way, new: Way,
+        breaks: tuple[str | None, str | None], count: int,
+    ) -> None:
+        self.hosts, self.vlans, self.ranges, self.old, self.new, self.breaks, self.count = (
+            hosts, vlans, found, old, new, breaks, count,
+        )
         self.kind = kind_of(old, new)
         self.rules: list[Any] = []
 
@@ -65,7 +79,9 @@ class Change:
 class Difference:
     """What another configuration changes."""
 
-    def __init__(self, old: Paths, new: Paths, before: Sequence[dict[str, Any]], after: Sequence[dict[str, Any]]) -> None:
+    def __init__(
+        self, old: Paths, new: Paths, before: Sequence[dict[str, Any]], after: Sequence[dict[str, Any]]
+    ) -> None:
         """Of two listings of paths, and of the rules of both."""
         self.both, self.tables = Beside(old, new), (Tables(before), Tables(after))
         self.counts = dict.fromkeys([*KINDS, "same"], 0)
@@ -76,7 +92,8 @@ class Difference:
         self.changes.sort(key=lambda one: (order.index(one.kind), numbers[one.hosts[0], one.vlans[0]], one.ranges))
 
     def differing(self) -> list[tuple[tuple[Way, Way], Any, Any]]:
-        """The atoms of each host port and VLAN at which the paths differ, by what is alike of them: the keys of both ways, and how they break the policy."""
+        """The atoms of each host port and VLAN at which the paths differ, by what is alike of them: the keys of both
+        ways, and how they break the policy."""
         found: dict[tuple[Any, ...], Any] = {}
         ways: dict[tuple[Any, ...], tuple[Way, Way]] = {}
         for entry in self.both.entries:
@@ -95,12 +112,17 @@ class Difference:
         changes = []
         for (old, new), breaks, by_entry in differing:
             for hosts, vlans, atoms in grouped({entry: tuple(atoms) for entry, atoms in by_entry.items()}):
-                change = Change(hosts, vlans, ranges(atoms, self.both.firsts), old, new, breaks, len(hosts) * len(vlans) * len(atoms))
+                change = Change(
+                    hosts, vlans, ranges(atoms, self.both.firsts), old, new, breaks,
+                    len(hosts) * len(vlans) * len(atoms),
+                )
                 change.rules = self.rules_at_turns(hosts, vlans, atoms, old, new)
                 changes.append(change)
         return changes
 
-    def rules_at_turns(self, hosts: Sequence[str], vlans: Sequence[str], atoms: Sequence[int], old: Way, new: Way) -> list[tuple[str, Any, Any]]:
+    def rules_at_turns(
+        self, hosts: Sequence[str], vlans: Sequence[str], atoms: Sequence[int], old: Way, new: Way
+    ) -> list[tuple[str, Any, Any]]:
         """The rules that count where the paths part, as the switch and both rules, each pair once."""
         found: dict[tuple[Any, ...], Any] = {}
         key = (old.key, new.key)
@@ -133,8 +155,11 @@ class Difference:
 
     @staticmethod
     def change_values(one: Change, has_policy: bool) -> dict[str, Any]:
-        values = {"kind": one.kind, "classes": one.count, "from": one.hosts, "vlans": [vlan_value(vlan) for vlan in one.vlans], "prefixes": prefixes(one.ranges),
-                  "old": way_values(one.old), "new": way_values(one.new)}
+        values = {
+            "kind": one.kind, "classes": one.count, "from": one.hosts,
+            "vlans": [vlan_value(vlan) for vlan in one.vlans], "prefixes": prefixes(one.ranges),
+            "old": way_values(one.old), "new": way_values(one.new),
+        }
         if has_policy:
             values["breaks"] = dict(zip(("old", "new"), one.breaks))
         return {**values, "rules": [{"switch": switch, "old": old, "new": new} for switch, old, new in one.rules]}
@@ -144,11 +169,21 @@ class Difference:
     def head(self, policy: str | None) -> list[str]:
         """The counts, as lines."""
         counts = self.counts
-        lines = [f"{counted(self.both.count(), 'class', 'classes')} of packets: "
-                 + ", ".join(f"{counts[kind]} {words}" for kind, words in KINDS.items() if counts[kind] or kind in ("lost", "gained", "way")) + f", {counts['same']} as before"]
+        lines = [
+            f"{counted(self.both.count(), 'class', 'classes')} of packets: "
+            + ", ".join(
+                f"{counts[kind]} {words}"
+                for kind, words in KINDS.items()
+                if counts[kind] or kind in ("lost", "gained", "way")
+            )
+            + f", {counts['same']} as before"
+        ]
         if policy is not None:
             before, after = self.breaking()
-            lines.append(f"{policy}: {counted(before, 'class breaks', 'classes break')} it under the old rules, {after} under the new ones")
+            lines.append(
+                f"{policy}: {counted(before, 'class breaks', 'classes break')} it under the old rules, {after} under"
+                " the new ones"
+            )
         return lines
 
     def paragraphs(self) -> list[Paragraph]:
@@ -161,7 +196,8 @@ class Difference:
         return list(found.values())
 
     def lines(self, network: Network, policy: str | None, most: int | None = None) -> list[str]:
-        """The counts, and what changes for whom. With `most` so many lines of changes at the most, and how many are left."""
+        """The counts, and what changes for whom. With `most` so many lines of changes at the most, and how many are
+        left."""
         lines, kind, paragraphs = self.head(policy), None, self.paragraphs()
         for number, one in enumerate(paragraphs):
             mine = one.lines(network, self.both.vlans, policy is not None)
@@ -176,7 +212,10 @@ class Difference:
 def parting(old: Way, new: Way) -> int:
     """The number of the stop behind which two paths part: the last that both have from the first on."""
     pairs = zip(old.places(), new.places())
-    return next((at for at, (one, other) in enumerate(pairs) if one != other), min(len(old.places()), len(new.places()))) - 1
+    return (
+        next((at for at, (one, other) in enumerate(pairs) if one != other), min(len(old.places()), len(new.places())))
+        - 1
+    )
 
 
 def tail_of(way: Way, at: int) -> tuple[str, ...]:
@@ -186,7 +225,8 @@ def tail_of(way: Way, at: int) -> tuple[str, ...]:
 
 
 class Paragraph:
-    """What changes alike from where the paths part: for which packets, both ways from there on, how they break the policy, and the rules."""
+    """What changes alike from where the paths part: for which packets, both ways from there on, how they break the
+    policy, and the rules."""
 
     def __init__(self, one: Change, at: int) -> None:
         self.kind, self.breaks, self.old, self.new, self.at = one.kind, one.breaks, one.old, one.new, at
@@ -200,7 +240,9 @@ class Paragraph:
         for host in one.hosts:
             for vlan in one.vlans:
                 self.by_entry.setdefault((host, vlan), []).extend(one.ranges)
-                self.counts[host, vlan] = self.counts.get((host, vlan), 0) + one.count // (len(one.hosts) * len(one.vlans))
+                self.counts[host, vlan] = self.counts.get((host, vlan), 0) + one.count // (
+                    len(one.hosts) * len(one.vlans)
+                )
         for rules in one.rules:
             self.rules.setdefault((rules[0], *map(id, rules[1:])), rules)
 
@@ -216,7 +258,9 @@ class Paragraph:
             lines.append(f"    {word} {front}{way_words(way, at)}{break_words(mark, has_policy)}")
         rules = list(self.rules.values())
         lines += [f"    {rule_words(switch, old, new, network)}" for switch, old, new in rules[:TOLD]]
-        return lines + ([f"    and {counted(len(rules) - TOLD, 'more rule', 'more rules')}"] if len(rules) > TOLD else [])
+        return lines + (
+            [f"    and {counted(len(rules) - TOLD, 'more rule', 'more rules')}"] if len(rules) > TOLD else []
+        )
 
 
 def way_values(way: Way) -> dict[str, Any]:
@@ -244,18 +288,30 @@ def break_words(mark: str | None, has_policy: bool) -> str:
 
 def rule_words(switch: str, old: dict[str, Any] | None, new: dict[str, Any] | None, network: Network) -> str:
     """The rules that make a difference at a switch, in words."""
-    if old is not None and new is not None and all(old.get(part) == new.get(part) for part in ("priority", "dst", "in_port", "vlan")):
+    if (
+        old is not None
+        and new is not None
+        and all(old.get(part) == new.get(part) for part in ("priority", "dst", "in_port", "vlan"))
+    ):
         return f"{switch}: {nets.change_words('replace', new, old, network)}"
     return f"{switch}: {one_rule(new, network)}; was {one_rule(old, network)}"
 
 
 def one_rule(rule: dict[str, Any] | None, network: Network) -> str:
-    return "no rule" if rule is None else f"{nets.match_words(rule)} {nets.action_words(rule, network)}, priority {rule['priority']}"
+    return (
+        "no rule"
+        if rule is None
+        else f"{nets.match_words(rule)} {nets.action_words(rule, network)}, priority {rule['priority']}"
+    )
 
 
 def difference(files: dict[str, Given], ask: Callable[..., Any] = asked) -> Difference:
-    """What NEW changes, of files that the program reads, given by the words TOPO, OLD, NEW and POLICY. `ask` gives what the program writes."""
-    before, after = (Paths(ask("paths", (0, 1), TOPO=files["TOPO"], CONFIG=files[word], POLICY=files.get("POLICY"))) for word in ("OLD", "NEW"))
+    """What NEW changes, of files that the program reads, given by the words TOPO, OLD, NEW and POLICY. `ask` gives what
+    the program writes."""
+    before, after = (
+        Paths(ask("paths", (0, 1), TOPO=files["TOPO"], CONFIG=files[word], POLICY=files.get("POLICY")))
+        for word in ("OLD", "NEW")
+    )
     return Difference(before, after, rules_of(files["OLD"]), rules_of(files["NEW"]))
 
 
@@ -268,9 +324,11 @@ def asked_silently(command: str, good: tuple[int, int], **files: Given) -> str:
 
 
 def summary(topology: str, old: str, new: str, policy: str, most: int = SUMMARY) -> list[str]:
-    """What the rules of a file change for whom, in lines, of which there are not many: for whoever is asked whether the change is wanted. Where the program
-    doesn't say it there are none."""
-    files = {word: Given(path, path) for word, path in (("TOPO", topology), ("OLD", old), ("NEW", new), ("POLICY", policy))}
+    """What the rules of a file change for whom, in lines, of which there are not many: for whoever is asked whether the
+    change is wanted. Where the program doesn't say it there are none."""
+    files = {
+        word: Given(path, path) for word, path in (("TOPO", topology), ("OLD", old), ("NEW", new), ("POLICY", policy))
+    }
     try:
         return difference(files, asked_silently).lines(network_of(files["TOPO"]), policy, most)
     except (Unable, OSError):
@@ -278,8 +336,14 @@ def summary(topology: str, old: str, new: str, policy: str, most: int = SUMMARY)
 
 
 def parser_of() -> argparse.ArgumentParser:
-    parser = argparse.ArgumentParser(prog="planner diff", description=__doc__.partition("\n\n")[2], formatter_class=argparse.RawDescriptionHelpFormatter)
-    parser.add_argument("files", metavar="FILE", nargs="+", help="TOPO OLD NEW [POLICY], or a folder in place of those that are left out")
+    parser = argparse.ArgumentParser(
+        prog="planner diff", description=__doc__.partition("\n\n")[2],
+        formatter_class=argparse.RawDescriptionHelpFormatter,
+    )
+    parser.add_argument(
+        "files", metavar="FILE", nargs="+",
+        help="TOPO OLD NEW [POLICY], or a folder in place of those that are left out",
+    )
     parser.add_argument("--json", action="store_true", help="writes JSON, for machines")
     return parser
 

@@ -45,7 +45,8 @@ class Load:
             self.take(way, atoms)
 
     def take(self, way: Way, atoms: Sequence[int]) -> None:
-        """Counts the classes of a path: for each stop but the first the link by which it came there, by the end that it came in at."""
+        """Counts the classes of a path: for each stop but the first the link by which it came there, by the end that it
+        came in at."""
         places = way.places()
         for place in places[1:]:
             add(self.links, place, atoms)
@@ -54,7 +55,8 @@ class Load:
                 add(self.switches, switch, atoms)
 
     def over(self, link: tuple[str, str]) -> list[tuple[str, str, int, list[tuple[int, int]]]]:
-        """Of a link both directions, each as the end where packets leave, the end where they come in, how many classes, and the ranges of their addresses."""
+        """Of a link both directions, each as the end where packets leave, the end where they come in, how many classes,
+        and the ranges of their addresses."""
         return [(one, other, *self.of(self.links, other)) for one, other in (link, link[::-1])]
 
     def of(self, found: dict[str, tuple[int, set[int]]], name: str) -> tuple[int, list[tuple[int, int]]]:
@@ -72,7 +74,12 @@ class Load:
                 "switches": [{"switch": name, **use_values(*self.of_switch(name))} for name in self.network.names]}
 
     def link_values(self, link: tuple[str, str]) -> dict[str, list[dict[str, Any] | str]]:
-        return {"link": list(link), "directions": [{"from": one, "to": other, **use_values(count, found)} for one, other, count, found in self.over(link)]}
+        return {
+            "link": list(link),
+            "directions": [
+                {"from": one, "to": other, **use_values(count, found)} for one, other, count, found in self.over(link)
+            ],
+        }
 
     # ---- in words
 
@@ -85,7 +92,9 @@ class Load:
 
     def link_lines(self, link: tuple[str, str]) -> list[str]:
         """A line for each direction that is used, or one that says that it is empty."""
-        used = [f"  {one} to {other}: {use_words(count, found)}" for one, other, count, found in self.over(link) if count]
+        used = [
+            f"  {one} to {other}: {use_words(count, found)}" for one, other, count, found in self.over(link) if count
+        ]
         return used or [f"  {link_words(link)}: empty"]
 
 
@@ -112,8 +121,12 @@ def look_at(load: Load, words: Sequence[str]) -> tuple[list[dict[str, Any]], lis
         uses = [one for link in links for one in load.over(link)]
         of_switches = [(name, *load.of_switch(name)) for name in switches]
         count = sum(one[2] for one in uses) + sum(one[1] for one in of_switches)
-        values.append({"named": word, "empty": count == 0, "links": [load.link_values(link) for link in links],
-                       "switches": [{"switch": name, **use_values(number, found)} for name, number, found in of_switches]})
+        values.append(
+            {
+                "named": word, "empty": count == 0, "links": [load.link_values(link) for link in links],
+                "switches": [{"switch": name, **use_values(number, found)} for name, number, found in of_switches],
+            }
+        )
         shown = ", ".join([*map(link_words, links), *switches])
         lines.append(f"empty: {shown}" if count == 0 else f"used: {shown}")
         lines += [f"  {one} to {other}: {use_words(number, found)}" for one, other, number, found in uses if number]
@@ -122,9 +135,18 @@ def look_at(load: Load, words: Sequence[str]) -> tuple[list[dict[str, Any]], lis
 
 
 def parser_of() -> argparse.ArgumentParser:
-    parser = argparse.ArgumentParser(prog="planner links", description=__doc__.partition("\n\n")[2], formatter_class=argparse.RawDescriptionHelpFormatter)
-    parser.add_argument("files", metavar="FILE", nargs="+", help="TOPO CONFIG, or a folder, which stands for its topology.json and old.json")
-    parser.add_argument("--empty", metavar="LINK", action="append", default=[], help="asks whether nothing uses this link or switch; exit status 1 where something does")
+    parser = argparse.ArgumentParser(
+        prog="planner links", description=__doc__.partition("\n\n")[2],
+        formatter_class=argparse.RawDescriptionHelpFormatter,
+    )
+    parser.add_argument(
+        "files", metavar="FILE", nargs="+",
+        help="TOPO CONFIG, or a folder, which stands for its topology.json and old.json",
+    )
+    parser.add_argument(
+        "--empty", metavar="LINK", action="append", default=[],
+        help="asks whether nothing uses this link or switch; exit status 1 where something does",
+    )
     parser.add_argument("--json", action="store_true", help="writes JSON, for machines")
     return parser
 

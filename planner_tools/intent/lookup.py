@@ -1,4 +1,5 @@
-"""Which rule counts for a packet at a switch, found by the kinds of patterns that the switch has. `trace` of the program says the same of one packet."""
+"""Which rule counts for a packet at a switch, found by the kinds of patterns that the switch has. `trace` of the
+program says the same of one packet."""
 from __future__ import annotations
 
 from planner_tools import network as nets
@@ -25,7 +26,9 @@ class Tables:
         """The rule of the greatest priority among those that cover a packet, or None where none does."""
         best: dict[str, Any] | None = None
         for (has_port, has_vlan, length), kind in self.kinds.get(switch, {}).items():
-            found = kind.get((port if has_port else "any", vlan if has_vlan else "any", address >> 32 - length << 32 - length))
+            found = kind.get(
+                (port if has_port else "any", vlan if has_vlan else "any", address >> 32 - length << 32 - length)
+            )
             if found is not None and (best is None or found["priority"] > best["priority"]):
                 best = found
         return best

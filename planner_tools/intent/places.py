@@ -1,4 +1,5 @@
-"""Links and switches as people name them: a link by one of its ends (`s1:2`) or by its switches (`s1-s2`), a switch by its name."""
+"""Links and switches as people name them: a link by one of its ends (`s1:2`) or by its switches (`s1-s2`), a switch by
+its name."""
 from __future__ import annotations
 
 from planner_tools.files import did_you_mean
@@ -36,15 +37,25 @@ class Places:
                 self.between.setdefault(f"{switch_of(one)}-{switch_of(other)}", []).append(link)
 
     def named(self, word: str) -> tuple[list[tuple[str, str]], list[str]]:
-        """The links, or the one switch, that a word names: a list of links and a list of switches. A word that names none is Unable."""
+        """The links, or the one switch, that a word names: a list of links and a list of switches. A word that names
+        none is Unable."""
         switches, links = [word] if word in self.network.numbers else [], []
         if not switches:
             links = [self.by_end[word]] if word in self.by_end else list(dict.fromkeys(self.between.get(word, [])))
         if not switches and not links:
-            raise Unable(f"the network has neither a link nor a switch {word}{did_you_mean(word, [*self.network.numbers, *self.by_end, *self.between])}", WRONG_WORDS,
-                       ["a link is named by an end of it, as s1:2, or by its switches, as s1-s2; a switch by its name"])
+            raise Unable(
+                (
+                    "the network has neither a link nor a switch"
+                    f" {word}{did_you_mean(word, [*self.network.numbers, *self.by_end, *self.between])}"
+                ),
+                WRONG_WORDS,
+                ["a link is named by an end of it, as s1:2, or by its switches, as s1-s2; a switch by its name"],
+            )
         if len({tuple(sorted(map(switch_of, link))) for link in links}) > 1:
-            raise Unable(f"{word} names links between several pairs of switches", WRONG_WORDS, [f"name one of their ends: {', '.join(end for link in links for end in link)}"])
+            raise Unable(
+                f"{word} names links between several pairs of switches", WRONG_WORDS,
+                [f"name one of their ends: {', '.join(end for link in links for end in link)}"],
+            )
         return links, switches
 
 

@@ -66,14 +66,22 @@ def prefixes_of(file: Given, network: Network) -> dict[str, list[str]]:
     found = {}
     for where, (dst, *hosts) in lines_of(file):
         if nets.prefix(dst) is None:
-            raise Unable(f"{where}: {dst} is no prefix{right_prefix(dst)}", BAD_FILE, ["a line has a prefix and a host port, as 10.0.0.0/24 s4:3"])
+            raise Unable(
+                f"{where}: {dst} is no prefix{right_prefix(dst)}", BAD_FILE,
+                ["a line has a prefix and a host port, as 10.0.0.0/24 s4:3"],
+            )
         if dst in found:
             raise Unable(f"{where}: {dst} stands twice", BAD_FILE)
         if not hosts:
-            raise Unable(f"{where}: the host port where {dst} leaves is missing", BAD_FILE, ["a line has a prefix and a host port, as 10.0.0.0/24 s4:3"])
+            raise Unable(
+                f"{where}: the host port where {dst} leaves is missing", BAD_FILE,
+                ["a line has a prefix and a host port, as 10.0.0.0/24 s4:3"],
+            )
         for host in hosts:
             if host not in network.hosts:
-                raise Unable(f"{where}: the network has no host port {host}{did_you_mean(host, network.hosts)}", BAD_FILE)
+                raise Unable(
+                    f"{where}: the network has no host port {host}{did_you_mean(host, network.hosts)}", BAD_FILE
+                )
         found[dst] = hosts
     return found
 
@@ -84,19 +92,34 @@ def right_prefix(text: str) -> str:
     if not found or max(map(int, found.groups()[:4])) > 255 or int(found[5]) > 32:
         return ""
     first, length = int.from_bytes(bytes(map(int, found.groups()[:4])), "big"), int(found[5])
-    return f": its address has bits behind the first {length}; did you mean `{nets.address(first >> 32 - length << 32 - length)}/{length}`?"
+    return (
+        f": its address has bits behind the first {length}; did you mean"
+        f" `{nets.address(first >> 32 - length << 32 - length)}/{length}`?"
+    )
 
 
 def weights_of(file: Given, network: Network, voice: Told) -> dict[tuple[str, str], int]:
-    """The weight of each link, in thousandths. A link that the file doesn't name has the greatest weight of the file."""
+    """The weight of each link, in thousandths. A link that the file doesn't name has the greatest weight of the
+    file."""
     links, found = {end: link for link in links_of(network) for end in link}, {}
     for where, words in lines_of(file):
-        if len(words) != 3 or links.get(words[0]) != links.get(words[1]) or words[0] == words[1] or words[0] not in links:
-            raise Unable(f"{where}: it isn't the two ends of a link, and its weight", BAD_FILE, ["a line is like: s1:2 s2:1 40.5"])
+        if (
+            len(words) != 3
+            or links.get(words[0]) != links.get(words[1])
+            or words[0] == words[1]
+            or words[0] not in links
+        ):
+            raise Unable(
+                f"{where}: it isn't the two ends of a link, and its weight", BAD_FILE,
+                ["a line is like: s1:2 s2:1 40.5"],
+            )
         found[links[words[0]]] = weight_of(words[2], where)
     lacking = [link for link in links_of(network) if link not in found]
     if lacking and found:
-        voice.note(f"{file.shown} has no weight for {counted(len(lacking), 'link')}, which count as its heaviest one: {shortened(list(map(link_words, lacking)), TOLD)}")
+        voice.note(
+            f"{file.shown} has no weight for {counted(len(lacking), 'link')}, which count as its heaviest one:"
+            f" {shortened(list(map(link_words, lacking)), TOLD)}"
+        )
     return {link: found.get(link, max(found.values(), default=UNIT)) for link in links_of(network)}
 
 
@@ -107,7 +130,9 @@ def weight_of(text: str, where: str) -> int:
     except decimal.InvalidOperation:
         thousandths = 0
     if thousandths < 1:
-        raise Unable(f"{where}: {text} is no weight", BAD_FILE, [f"a weight is a decimal number from 0.001 to {MOST_WEIGHT}"])
+        raise Unable(
+            f"{where}: {text} is no weight", BAD_FILE, [f"a weight is a decimal number from 0.001 to {MOST_WEIGHT}"]
+        )
     return thousandths
 
 
@@ -116,10 +141,19 @@ def weight_of(text: str, where: str) -> int:
 class Graph:
     """The switches and links of a network that aren't drained."""
 
-    def __init__(self, network: Network, weights: dict[tuple[str, str], int], without_links: set[tuple[str, str]], without_switches: set[str]) -> None:
-        self.steps: dict[str, list[tuple[int, str, int]]] = {name: [] for name in network.names if name not in without_switches}
+    def __init__(
+        self, network: Network, weights: dict[tuple[str, str], int], without_links: set[tuple[str, str]],
+        without_switches: set[str],
+    ) -> None:
+        self.steps: dict[str, list[tuple[int, str, int]]] = {
+            name: [] for name in network.names if name not in without_switches
+        }
         for link in links_of(network):
-            if link in without_links or {*map(switch_of, link)} & without_switches or switch_of(link[0]) == switch_of(link[1]):
+            if (
+                link in without_links
+                or {*map(switch_of, link)} & without_switches
+                or switch_of(link[0]) == switch_of(link[1])
+            ):
                 continue
             for one, other in (link, link[::-1]):
                 self.steps[switch_of(one)].append((int(one.rpartition(":")[2]), switch_of(other), weights[link]))
@@ -144,7 +178,11 @@ class Graph:
 
     def nearer(self, name: str, far: dict[str, int]) -> list[tuple[int, str]]:
         """The ports of a switch, and the switches behind them, by which a shortest path may go on."""
-        return [(port, other) for port, other, weight in self.steps[name] if other in far and far[other] + weight == far[name]]
+        return [
+            (port, other)
+            for port, other, weight in self.steps[name]
+            if other in far and far[other] + weight == far[name]
+        ]
 
 
 # ---- rules
@@ -157,13 +195,16 @@ def is_plain(rule: dict[str, Any]) -> bool:
 class Draft:
     """The rules that are made. `rules` has those of CONFIG, in which those of the prefixes are replaced."""
 
-    def __init__(self, network: Network, graph: Graph, exits: dict[str, list[str]], before: Sequence[dict[str, Any]]) -> None:
+    def __init__(
+        self, network: Network, graph: Graph, exits: dict[str, list[str]], before: Sequence[dict[str, Any]]
+    ) -> None:
         self.network, self.graph, self.exits = network, graph, exits
         self.unreached: dict[str, list[str]] = {}
         self.before = before
         self.rules: list[Any] = list(before)
         self.has_hosts = {switch_of(host) for host in network.hosts}
-        self.place: dict[tuple[str, str], int] = {}              # where in `rules` the rule of a switch for a prefix stands: of several the one that counts
+        # where in `rules` the rule of a switch for a prefix stands: of several the one that counts
+        self.place: dict[tuple[str, str], int] = {}
         for at, rule in enumerate(before):
             if is_plain(rule) and rule["dst"] in exits:
                 key = rule["switch"], rule["dst"]
@@ -196,14 +237,20 @@ class Draft:
             return out if out in ports else ports[0], name
         nearer = self.graph.nearer(name, far)
         kept = [one for one in nearer if one[0] == out]
-        return (kept or sorted(nearer, key=lambda one: (not (one[1] in wanted or self.is_good(one[1], dst, far)), one[0])))[0]
+        return (
+            kept or sorted(nearer, key=lambda one: (not (one[1] in wanted or self.is_good(one[1], dst, far)), one[0]))
+        )[0]
 
     def is_good(self, name: str, dst: str, far: dict[str, int]) -> bool:
         """Whether the rule that a switch has for a prefix lies on a shortest path."""
         rule = self.rule(name, dst)
         if rule is None:
             return False
-        return f"{name}:{rule['out']}" in self.exits[dst] if far[name] == 0 else any(port == rule["out"] for port, _ in self.graph.nearer(name, far))
+        return (
+            f"{name}:{rule['out']}" in self.exits[dst]
+            if far[name] == 0
+            else any(port == rule["out"] for port, _ in self.graph.nearer(name, far))
+        )
 
     def rule(self, name: str, dst: str) -> dict[str, Any] | None:
         at = self.place.get((name, dst))
@@ -226,7 +273,10 @@ class Draft:
     def counts(self) -> tuple[int, int, int]:
         """How many rules are new, sent elsewhere and taken away."""
         old, new = ({rule_key(rule): rule["out"] for rule in rules} for rules in (self.before, self.rules))
-        return len(new.keys() - old.keys()), sum(old[key] != out for key, out in new.items() if key in old), len(old.keys() - new.keys())
+        return (
+            len(new.keys() - old.keys()), sum(old[key] != out for key, out in new.items() if key in old),
+            len(old.keys() - new.keys()),
+        )
 
 
 def rule_key(rule: dict[str, Any]) -> tuple[str, int, int | str, str, str]:
@@ -234,8 +284,9 @@ def rule_key(rule: dict[str, Any]) -> tuple[str, int, int | str, str, str]:
 
 
 class Priorities:
-    """Priorities for new rules: the one that CONFIG gives the prefix at most switches, or most rules, where it stands right among the other rules of the
-    switch: above those for all packets to greater prefixes, and below the others that share packets with it."""
+    """Priorities for new rules: the one that CONFIG gives the prefix at most switches, or most rules, where it stands
+    right among the other rules of the switch: above those for all packets to greater prefixes, and below the others
+    that share packets with it."""
 
     def __init__(self, rules: Sequence[dict[str, Any]]) -> None:
         self.all: collections.Counter[int] = collections.Counter()
@@ -248,7 +299,8 @@ class Priorities:
             self.all[rule["priority"]] += 1
 
     def add(self, rule: dict[str, Any]) -> None:
-        """Keeps of each prefix at a switch the least and the greatest priority: of rules for all packets, and of the others."""
+        """Keeps of each prefix at a switch the least and the greatest priority: of rules for all packets, and of the
+        others."""
         prefixes, ordered = self.at_switch.setdefault(rule["switch"], ({}, []))
         mine = nets.span(rule["dst"])
         if mine not in prefixes:
@@ -261,18 +313,26 @@ class Priorities:
         mine = nets.span(dst)
         low, high = self.bounds(*self.at_switch.get(switch, ({}, [])), *mine)
         if low + 1 >= high:
-            raise Unable(f"at {switch} no priority is left for {dst}: it would have to lie above {low} and below {high}", BAD_FILE, ["make room between the priorities of CONFIG"])
+            raise Unable(
+                f"at {switch} no priority is left for {dst}: it would have to lie above {low} and below {high}",
+                BAD_FILE, ["make room between the priorities of CONFIG"],
+            )
         wanted, between = most_common(self.of_prefix.get(dst) or self.all), (low + high) // 2
         return wanted if low < wanted < high else min(low + GAP, between) if wanted <= low else between
 
     @staticmethod
-    def bounds(prefixes: dict[tuple[int, int], dict[bool, list[int]]], ordered: Sequence[tuple[int, int]], first: int, length: int) -> tuple[int, int]:
+    def bounds(
+        prefixes: dict[tuple[int, int], dict[bool, list[int]]], ordered: Sequence[tuple[int, int]], first: int,
+        length: int,
+    ) -> tuple[int, int]:
         """Above which and below which priority a rule for all packets to a prefix has to lie."""
         low, high = LEAST - 1, GREATEST + 1
         for less in range(length):
             found = prefixes.get((first >> 32 - less << 32 - less, less), NONE)
             low, high = max([low, *found[True]]), min([high, *found[False]])
-        begin, end = bisect.bisect_left(ordered, (first, length)), bisect.bisect_left(ordered, (first + (1 << 32 - length), 0))
+        begin, end = bisect.bisect_left(ordered, (first, length)), bisect.bisect_left(
+            ordered, (first + (1 << 32 - length), 0)
+        )
         for inner in ordered[begin:end]:
             if inner[1] >= length:
                 high = min([high, *prefixes[inner][True], *prefixes[inner][False]])
@@ -301,18 +361,29 @@ def accepted(topology: Given, text: str, shown: str) -> Paths:
         return Paths(asked("paths", TOPO=topology, CONFIG=config))
 
 
-def say(draft: Draft, paths: Paths, network: Network, drained: tuple[list[tuple[str, str]], list[str]], voice: Told) -> None:
+def say(
+    draft: Draft, paths: Paths, network: Network, drained: tuple[list[tuple[str, str]], list[str]], voice: Told
+) -> None:
     """What the draft is, what it can't do, and what it leaves to do."""
     new, other, gone = draft.counts()
-    voice.note(f"{counted(len(draft.rules), 'rule')}" + (f": {new} new, {other} sent elsewhere, {gone} taken away" if draft.before else ""))
+    voice.note(
+        f"{counted(len(draft.rules), 'rule')}"
+        + (f": {new} new, {other} sent elsewhere, {gone} taken away" if draft.before else "")
+    )
     by_prefixes: dict[tuple[str, ...], list[str]] = {}
     for name in sorted(draft.unreached, key=lambda name: network.numbers[name]):
         by_prefixes.setdefault(tuple(draft.unreached[name]), []).append(name)
     for dsts, names in by_prefixes.items():
-        voice.warn(f"there is no way from {shortened(names, TOLD)} to {shortened(list(dsts), TOLD)}: packets from hosts there are dropped")
+        voice.warn(
+            f"there is no way from {shortened(names, TOLD)} to {shortened(list(dsts), TOLD)}: packets from hosts there"
+            " are dropped"
+        )
     links, switches = drained
     load = Load(paths, network)
-    for words, count, found in [*((f"{one} to {end}", count, found) for link in links for one, end, count, found in load.over(link)), *((name, *load.of_switch(name)) for name in switches)]:
+    for words, count, found in [
+        *((f"{one} to {end}", count, found) for link in links for one, end, count, found in load.over(link)),
+        *((name, *load.of_switch(name)) for name in switches),
+    ]:
         if count:
             voice.warn(f"{words} is still used, by rules that stay as they are: {use_words(count, found)}")
 
@@ -329,11 +400,25 @@ def drained_of(words: Sequence[str], network: Network) -> tuple[list[tuple[str, 
 
 
 def parser_of() -> argparse.ArgumentParser:
-    parser = argparse.ArgumentParser(prog="planner route", description=__doc__.partition("\n\n")[2], formatter_class=argparse.RawDescriptionHelpFormatter)
-    parser.add_argument("files", metavar="FILE", nargs="+", help="TOPO PREFIXES, or a folder, which stands for its topology.json and prefixes")
-    parser.add_argument("--drain", metavar="LINK", action="append", default=[], help="a link that is to be empty, by one of its ends (s1:2) or its switches (s1-s2), or a switch by "
-                        "its name; several may be given")
-    parser.add_argument("--weights", metavar="FILE", help="the weight of each link, as `from-graphml --distances` and `--speeds` write them")
+    parser = argparse.ArgumentParser(
+        prog="planner route", description=__doc__.partition("\n\n")[2],
+        formatter_class=argparse.RawDescriptionHelpFormatter,
+    )
+    parser.add_argument(
+        "files", metavar="FILE", nargs="+",
+        help="TOPO PREFIXES, or a folder, which stands for its topology.json and prefixes",
+    )
+    parser.add_argument(
+        "--drain", metavar="LINK", action="append", default=[],
+        help=(
+            "a link that is to be empty, by one of its ends (s1:2) or its switches (s1-s2), or a switch by "
+            "its name; several may be given"
+        ),
+    )
+    parser.add_argument(
+        "--weights", metavar="FILE",
+        help="the weight of each link, as `from-graphml --distances` and `--speeds` write them",
+    )
     parser.add_argument("--from", metavar="CONFIG", dest="before", help="the rules now")
     return parser
 
@@ -348,9 +433,16 @@ def work(words: Sequence[str], voice: Told) -> tuple[int, str]:
         asked("config", (0, 1), TOPO=files["TOPO"], CONFIG=before)
     network = network_of(files["TOPO"])
     exits = prefixes_of(files["PREFIXES"], network)
-    weights = weights_of(beside(folder, given.weights), network, voice) if given.weights is not None else dict.fromkeys(links_of(network), UNIT)
+    weights = (
+        weights_of(beside(folder, given.weights), network, voice)
+        if given.weights is not None
+        else dict.fromkeys(links_of(network), UNIT)
+    )
     drained = drained_of(given.drain, network)
-    draft = Draft(network, Graph(network, weights, set(drained[0]), set(drained[1])), exits, rules_of(before) if before is not None else [])
+    draft = Draft(
+        network, Graph(network, weights, set(drained[0]), set(drained[1])), exits,
+        rules_of(before) if before is not None else [],
+    )
     text = config_text(draft.rules)
     say(draft, accepted(files["TOPO"], text, "the draft"), network, drained, voice)
     return 0, text

@@ -1,4 +1,5 @@
-"""Writes a page that shows what a plan does, or where packets go under a configuration, one HTML file that needs nothing else:
+"""Writes a page that shows what a plan does, or where packets go under a configuration, one HTML file that needs
+nothing else:
 
     planner page TOPO OLD NEW POLICY PLAN [--schedule FILE] > update.html
     planner page TOPO CONFIG [POLICY] > now.html
@@ -25,20 +26,47 @@ if TYPE_CHECKING:
 
 HERE = os.path.dirname(os.path.realpath(__file__))
 
-SCRIPTS = ("model.js", "walks.js", "search.js", "words.js", "changes.js", "picture.js", "player.js", "survey.js", "views.js", "main.js")
+SCRIPTS = (
+    "model.js", "walks.js", "search.js", "words.js", "changes.js", "picture.js", "player.js", "survey.js", "views.js",
+    "main.js",
+)
 # How many files there are: of an update, and of a configuration without and with a policy.
 UPDATE, CONFIGURATION = 5, (2, 3)
 
 
 def asked_by(words: Sequence[str]) -> argparse.Namespace:
-    parser = argparse.ArgumentParser(prog="planner page", usage="planner page [-h] TOPO OLD NEW POLICY PLAN [--schedule FILE] [--layout graphviz|own] [--planner PATH]\n"
-                                     "       planner page [-h] TOPO CONFIG [POLICY] [--layout graphviz|own] [--planner PATH]",
-                                     description="Writes a page that shows what a plan does; or, without a plan, where packets go under a configuration.")
-    parser.add_argument("files", metavar="FILE", nargs="+", help="the network, the rules now, the rules wanted, what packets must do, and the plan, from any source; "
-                        "or the network, the rules, and what packets must do")
-    parser.add_argument("--schedule", metavar="FILE", help="a run of the plan, to be played: what `planner simulate` or `planner explain` wrote, or the record of an update")
-    parser.add_argument("--planner", metavar="PATH", help="the program; else the variable PLANNER, else the one that is built or installed")
-    parser.add_argument("--layout", choices=("graphviz", "own"), default="graphviz", help="own: Graphviz isn't used, even where it is there")
+    parser = argparse.ArgumentParser(
+        prog="planner page",
+        usage=(
+            "planner page [-h] TOPO OLD NEW POLICY PLAN [--schedule FILE] [--layout graphviz|own] [--planner PATH]\n"
+            "       planner page [-h] TOPO CONFIG [POLICY] [--layout graphviz|own] [--planner PATH]"
+        ),
+        description=(
+            "Writes a page that shows what a plan does; or, without a plan, where packets go under a configuration."
+        ),
+    )
+    parser.add_argument(
+        "files", metavar="FILE", nargs="+",
+        help=(
+            "the network, the rules now, the rules wanted, what packets must do, and the plan, from any source; "
+            "or the network, the rules, and what packets must do"
+        ),
+    )
+    parser.add_argument(
+        "--schedule", metavar="FILE",
+        help=(
+            "a run of the plan, to be played: what `planner simulate` or `planner explain` wrote, or the record of an"
+            " update"
+        ),
+    )
+    parser.add_argument(
+        "--planner", metavar="PATH",
+        help="the program; else the variable PLANNER, else the one that is built or installed",
+    )
+    parser.add_argument(
+        "--layout", choices=("graphviz", "own"), default="graphviz",
+        help="own: Graphviz isn't used, even where it is there",
+    )
     asked = parser.parse_args(words)
     if len(asked.files) != UPDATE and len(asked.files) not in CONFIGURATION:
         parser.error(f"{len(asked.files)} files are given: it takes the {UPDATE} of an update, or TOPO CONFIG [POLICY]")
@@ -68,16 +96,19 @@ def values_of(asked: argparse.Namespace, names: Names) -> dict[str, Any]:
     else:
         said, files = verdict_of_configuration(planner, paths), Files.of_configuration(*paths)
         title = f"{os.path.basename(names.shown(paths[1]))}: where packets go"
-    values = {"title": title, "files": [names.shown(path) for path in paths], "command": "check" if len(paths) == UPDATE else "config", "verdict": said, **files.values(),
-              "layout": layout(len(files.names), files.links, files.hosts, asked.layout == "graphviz")}
+    values = {
+        "title": title, "files": [names.shown(path) for path in paths],
+        "command": "check" if len(paths) == UPDATE else "config", "verdict": said, **files.values(),
+        "layout": layout(len(files.names), files.links, files.hosts, asked.layout == "graphviz"),
+    }
     if asked.schedule:
         values["schedule"] = {**schedule_values(planner, paths, asked.schedule), "name": names.shown(asked.schedule)}
     return values
 
 
 def schedule_values(planner: str, update: Sequence[str], name: str) -> dict[str, Any]:
-    """The lines of a schedule, and what `planner replay` says of it. A record of an update, which has what switches sent, is no schedule: the
-    events that `planner drive` or `planner serve` says of it are one."""
+    """The lines of a schedule, and what `planner replay` says of it. A record of an update, which has what switches
+    sent, is no schedule: the events that `planner drive` or `planner serve` says of it are one."""
     topology, old, _, _, plan = update
     with open(name, encoding="utf-8", errors="replace", newline="") as file:
         text = file.read()

@@ -2,8 +2,9 @@
 
 The planner has read the files before, so nothing is checked here.
 
-A rule is a list: switch, priority, ingress port (0 for any), VLAN (-1 for any, 0 for untagged), first address and length of the prefix, output
-(0 for drop), and what is done with the VLAN (0 nothing, -1 the tag is stripped, else this id is set). Switches and host ports have their numbers.
+A rule is a list: switch, priority, ingress port (0 for any), VLAN (-1 for any, 0 for untagged), first address and
+length of the prefix, output (0 for drop), and what is done with the VLAN (0 nothing, -1 the tag is stripped, else this
+id is set). Switches and host ports have their numbers.
 """
 from __future__ import annotations
 
@@ -36,7 +37,9 @@ def prefix_of(text: str) -> tuple[int, int]:
     return first, int(length)
 
 
-NO_PLAN = {"format": 2, "kind": "ordered", "rules": [], "rounds": [], "numberings": [], "befores": [], "uses": [], "picks": []}
+NO_PLAN = {
+    "format": 2, "kind": "ordered", "rules": [], "rounds": [], "numberings": [], "befores": [], "uses": [], "picks": [],
+}
 
 
 class Files:
@@ -74,8 +77,10 @@ class Files:
         first, length = prefix_of(rule["dst"])
         in_port, out = rule.get("in_port", "any"), rule["out"]
         rewrite = STRIP if rule.get("strip") else rule.get("set", KEEP)
-        kept = (self.number_of[rule["switch"]], rule["priority"], 0 if in_port == "any" else in_port, vlan_of(rule.get("vlan", "any")),
-                first, length, DROP if out == "drop" else out, rewrite)
+        kept = (
+            self.number_of[rule["switch"]], rule["priority"], 0 if in_port == "any" else in_port,
+            vlan_of(rule.get("vlan", "any")), first, length, DROP if out == "drop" else out, rewrite,
+        )
         if kept not in self.number_of_rule:
             self.number_of_rule[kept] = len(self.rules)
             self.rules.append(kept)
@@ -88,8 +93,10 @@ class Files:
         source = demand.get("from", "any")
         host = -1 if source == "any" else self.hosts.index(self.port_of(source))
         through = list(dict.fromkeys(self.number_of[name] for name in demand.get("through", [])))
-        return {"host": host, "vlan": vlan_of(demand.get("vlan", "any")), "prefix": prefix_of(demand["dst"]), "through": through,
-                "deliver": demand.get("deliver", False)}
+        return {
+            "host": host, "vlan": vlan_of(demand.get("vlan", "any")), "prefix": prefix_of(demand["dst"]),
+            "through": through, "deliver": demand.get("deliver", False),
+        }
 
     def read_plan(self, plan: dict[str, Any]) -> None:
         self.kind = plan["kind"]
@@ -98,19 +105,30 @@ class Files:
         else:
             self.rounds = [[[do, self.keep(plan["rules"][rule])] for do, rule in changes] for changes in plan["rounds"]]
         if self.kind == "two-phase":
-            self.evidence = {"labels": [[[vlan_of(vlan), version, vlan_of(user)] for vlan, version, user in table] for table in plan["labels"]],
-                             "picks": plan["picks"]}
+            self.evidence = {
+                "labels": [
+                    [[vlan_of(vlan), version, vlan_of(user)] for vlan, version, user in table]
+                    for table in plan["labels"]
+                ],
+                "picks": plan["picks"],
+            }
             return
         self.evidence = {"numberings": plan["numberings"], "befores": plan["befores"]}
         if plan["format"] == 2:
             self.evidence |= {"uses": plan["uses"], "picks": plan["picks"]}
             return
         uses: dict[Any, int] = {}
-        picks = [[at, of, uses.setdefault((numbering, tuple(befores)), len(uses))] for at, of, numbering, befores in plan["picks"]]
+        picks = [
+            [at, of, uses.setdefault((numbering, tuple(befores)), len(uses))]
+            for at, of, numbering, befores in plan["picks"]
+        ]
         self.evidence |= {"uses": [[numbering, list(befores)] for numbering, befores in uses], "picks": picks}
 
     def values(self) -> dict[str, Any]:
         """Returns what the page's script takes."""
-        return {"switches": [{"name": name, "capacity": capacity} for name, capacity in zip(self.names, self.capacities)], "links": self.links,
-                "hosts": self.hosts, "vlans": self.vlans, "rules": self.rules, "old": self.old, "new": self.new, "demands": self.demands,
-                "alone": self.is_alone, "kind": self.kind, "rounds": self.rounds, "evidence": self.evidence}
+        return {
+            "switches": [{"name": name, "capacity": capacity} for name, capacity in zip(self.names, self.capacities)],
+            "links": self.links, "hosts": self.hosts, "vlans": self.vlans, "rules": self.rules, "old": self.old,
+            "new": self.new, "demands": self.demands, "alone": self.is_alone, "kind": self.kind, "rounds": self.rounds,
+            "evidence": self.evidence,
+        }

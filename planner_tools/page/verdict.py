@@ -9,7 +9,10 @@ TYPE_CHECKING = False
 if TYPE_CHECKING:
     from typing import Any, Sequence
 
-HOLDS = "No packet comes to a switch twice, each that leaves has met its waypoints in their order, and none that must arrive is dropped by a switch."
+HOLDS = (
+    "No packet comes to a switch twice, each that leaves has met its waypoints in their order, and none that must"
+    " arrive is dropped by a switch."
+)
 # The statuses with which the planner says yes or no; with any other one there is no page.
 YES, NO, NO_RUN = 0, 1, 8
 
@@ -49,7 +52,10 @@ def verdict_of_configuration(planner: str, files: Sequence[str]) -> dict[str, An
         return {"accepted": True, "line": lines[0], "sentence": HOLDS, "reason": {}}
     # `check` says the same of a configuration that breaks, with the name and the end of an update before it.
     sentence, reason = sentence_of(f"refused: 1 EndBreaks old {lines[0].removeprefix('breaks: ')}")
-    return {"accepted": False, "line": lines[0], "sentence": sentence.replace("the old configuration", "this configuration"), "reason": reason}
+    return {
+        "accepted": False, "line": lines[0],
+        "sentence": sentence.replace("the old configuration", "this configuration"), "reason": reason,
+    }
 
 
 def driven(planner: str, update: Sequence[str], record: str) -> str:
@@ -64,20 +70,26 @@ def driven(planner: str, update: Sequence[str], record: str) -> str:
 
 
 def served(planner: str, update: Sequence[str], record: str) -> str:
-    """Returns the events of the record of an update whose sessions were opened anew. Those of one that was turned back are no schedule."""
+    """Returns the events of the record of an update whose sessions were opened anew. Those of one that was turned back
+    are no schedule."""
     with open(record, "rb") as lines:
-        done = subprocess.run([planner, "serve", *update], stdin=lines, stdout=subprocess.PIPE, text=True, errors="replace", check=False)
+        done = subprocess.run(
+            [planner, "serve", *update], stdin=lines, stdout=subprocess.PIPE, text=True, errors="replace", check=False
+        )
     told = done.stdout.splitlines()
     if done.returncode != YES:
         raise NoVerdict("\n".join(told) or f"planner serve ended with status {done.returncode}", done.returncode)
     events = [line for line in told if line.split(" ")[0] in ("start", "back", "change", "undo", "settle")]
     if any(line.split(" ")[0] in ("back", "undo") for line in events):
-        raise NoVerdict(f"{record} is of an update that was turned back: its events are no schedule, and no page plays them", NO)
+        raise NoVerdict(
+            f"{record} is of an update that was turned back: its events are no schedule, and no page plays them", NO
+        )
     return "".join(f"{line}\n" for line in [*events, told[-1].replace("ok ", "# ", 1)])
 
 
 def traces(planner: str, topology: str, old: str, plan: str, schedule: str) -> dict[str, Any]:
-    """Returns what the planner says of a recorded run: a line for each packet and one for the whole, or the line of the first event that can't be."""
+    """Returns what the planner says of a recorded run: a line for each packet and one for the whole, or the line of the
+    first event that can't be."""
     status, lines = ask(planner, "replay", topology, old, plan, schedule)
     if status not in (YES, NO_RUN):
         raise NoVerdict("\n".join(lines) or f"planner replay ended with status {status}", status)

@@ -1,5 +1,5 @@
-"""The tables of real switches: reading them, and carrying plans out. Every byte that changes a table is decided by `planner serve`, with which the package
-`planner` speaks: the library of the same checkout or installation."""
+"""The tables of real switches: reading them, and carrying plans out. Every byte that changes a table is decided by
+`planner serve`, with which the package `planner` speaks: the library of the same checkout or installation."""
 import os
 import sys
 

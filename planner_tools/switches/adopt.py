@@ -53,7 +53,8 @@ REFUSED = 1
 
 
 class Finding(Reading):
-    """What a switch has: what is taken and left out as in `Reading`; and its default entry of standalone mode, or None."""
+    """What a switch has: what is taken and left out as in `Reading`; and its default entry of standalone mode, or
+    None."""
 
     def __init__(self, name: str, answers: Answers) -> None:
         self.default: Entry | None = None
@@ -66,7 +67,13 @@ class Finding(Reading):
         return super().keep(entry)
 
     def compare(self, extended: Sequence[ExtendedEntry]) -> None:
-        super().compare([one for one in extended if not (one.table == 0 and one.priority == 0 and one.type is None and one.actions[:6] == TO_NORMAL)])
+        super().compare(
+            [
+                one
+                for one in extended
+                if not (one.table == 0 and one.priority == 0 and one.type is None and one.actions[:6] == TO_NORMAL)
+            ]
+        )
 
     def words(self) -> str:
         """What is found, in a line."""
@@ -85,7 +92,9 @@ class Adopting:
     def __init__(self, options: argparse.Namespace) -> None:
         self.options = options
         self.topology = os.path.join(options.folder, "topology.json")
-        self.policy, self.new, self.old = (os.path.join(options.folder, f"{name}.json") for name in ("policy", "new", "old"))
+        self.policy, self.new, self.old = (
+            os.path.join(options.folder, f"{name}.json") for name in ("policy", "new", "old")
+        )
         self.listed = read_switches(options.switches, self.topology)
         self.switches: Switches | None = None
         self.owed: set[str] = set()
@@ -139,7 +148,10 @@ class Adopting:
         self.findings = {name: Finding(name, tables.answers[name]) for name in self.listed}
         marks = [f"{name} has the mark {mark}" for name, answers in tables.answers.items() for mark in answers.marks()]
         if marks:
-            raise Stop(f"an update is at work: {'; '.join(marks)}", "wait for its end, or take its record up by `planner apply --resume` or `--back`")
+            raise Stop(
+                f"an update is at work: {'; '.join(marks)}",
+                "wait for its end, or take its record up by `planner apply --resume` or `--back`",
+            )
 
     def until(self, is_done: Callable[..., Any], tables: Tables | None = None) -> None:
         """Takes what comes until something is so."""
@@ -147,13 +159,22 @@ class Adopting:
         while not is_done():
             if time.monotonic() > end:
                 names = sorted(tables.missing() if tables else self.owed)
-                raise Stop(f"no answer from {', '.join(f'{name}{self.connections().why_away(name)}' for name in names)} within {self.options.patience:g} s",
-                           "see that they are connected, and begin again: what they have then is read anew")
+                raise Stop(
+                    (
+                        "no answer from"
+                        f" {', '.join(f'{name}{self.connections().why_away(name)}' for name in names)} within"
+                        f" {self.options.patience:g} s"
+                    ),
+                    "see that they are connected, and begin again: what they have then is read anew",
+                )
             for what, connection, message in self.connections().poll(0.05):
                 if what == "up" and tables:
                     tables.ask(connection)
                 elif what == "down" and connection.name in self.owed:
-                    raise Stop(f"{connection.name} closed its connection", "begin again: what the switches have then is read anew")
+                    raise Stop(
+                        f"{connection.name} closed its connection",
+                        "begin again: what the switches have then is read anew",
+                    )
                 elif what == "down" and tables:
                     tables.lost(connection)
                 elif what == "message" and not (tables and tables.take(connection, message)):
@@ -165,14 +186,20 @@ class Adopting:
             return
         if openflow.type_of(message) == openflow.ERROR:
             words = openflow.error_words(int.from_bytes(message[8:10], "big"), int.from_bytes(message[10:12], "big"))
-            raise Stop(f"{connection.name} refuses a change: {words}", "see to that, and begin again: what the switches have then is read anew")
+            raise Stop(
+                f"{connection.name} refuses a change: {words}",
+                "see to that, and begin again: what the switches have then is read anew",
+            )
         if openflow.type_of(message) == openflow.BARRIER_REPLY:
             self.owed.discard(connection.name)
 
     def refuse_what_cannot_be_said(self) -> None:
         faults = sum(len(one.faults) for one in self.findings.values())
         if faults:
-            raise Stop(f"{count_words(faults)} can't be said in a configuration: they stand above", "change them at the switches; docs/CONTROLLER.md says how, and README what can't be said")
+            raise Stop(
+                f"{count_words(faults)} can't be said in a configuration: they stand above",
+                "change them at the switches; docs/CONTROLLER.md says how, and README what can't be said",
+            )
 
     def imported(self) -> tuple[int, list[dict[str, Any]]]:
         """The status of `planner import`, and the rules that the switches have."""
@@ -194,11 +221,25 @@ class Adopting:
             with open(path, encoding="utf-8") as file:
                 own = json.load(file)["rules"]
             held = {(rule["switch"], rule_key(rule)): rule for rule in there}
-            others = [f"{one['switch']} {one['dst']}" for one in own if (one["switch"], rule_key(one)) in held and rule_action(held[one["switch"], rule_key(one)]) != rule_action(one)]
+            others = [
+                f"{one['switch']} {one['dst']}"
+                for one in own
+                if (one["switch"], rule_key(one)) in held
+                and rule_action(held[one["switch"], rule_key(one)]) != rule_action(one)
+            ]
         except (ValueError, KeyError, TypeError, AttributeError, OSError) as fault:
-            raise Stop(f"{path} isn't read as a configuration: {fault}", f"`planner config {self.topology} {path}` says what is wrong with it") from None
+            raise Stop(
+                f"{path} isn't read as a configuration: {fault}",
+                f"`planner config {self.topology} {path}` says what is wrong with it",
+            ) from None
         if others:
-            raise Stop(f"a rule of {path} is there with another output: {', '.join(others[:6])}", "`planner update` leads from the rules that are there to others; without --own they are taken as they are")
+            raise Stop(
+                f"a rule of {path} is there with another output: {', '.join(others[:6])}",
+                (
+                    "`planner update` leads from the rules that are there to others; without --own they are taken as"
+                    " they are"
+                ),
+            )
         return [one for one in own if (one["switch"], rule_key(one)) not in held]
 
     def judged(self, rules: Sequence[dict[str, Any]]) -> int:
@@ -209,8 +250,11 @@ class Adopting:
             file.flush()
             status, _ = say_why("config", self.topology, file.name, *policy)
         if status != 0:
-            say("stopped: no plan can start from these rules; nothing was written or sent. Next: --own CONFIG names rules that are put in beside those that are there; "
-                "docs/CONTROLLER.md says what to do with a network that is empty or broken")
+            say(
+                "stopped: no plan can start from these rules; nothing was written or sent. Next: --own CONFIG names"
+                " rules that are put in beside those that are there; docs/CONTROLLER.md says what to do with a network"
+                " that is empty or broken"
+            )
         return status
 
     def write_old(self, rules: Sequence[dict[str, Any]]) -> None:
@@ -229,23 +273,33 @@ class Adopting:
             except (ValueError, KeyError, TypeError, OSError):
                 is_same = False
             if not is_same:
-                raise Stop(f"{self.old} is there, and says something else than the switches would have", "move it away, and begin again") from None
+                raise Stop(
+                    f"{self.old} is there, and says something else than the switches would have",
+                    "move it away, and begin again",
+                ) from None
             say(f"{self.old} has these rules already")
 
     def is_wanted(self, missing: Sequence[dict[str, Any]], defaults: Sequence[str]) -> bool:
         """Whether the switches may be changed."""
         if missing:
-            say(f"{count_words(len(missing))} will be put in, at {', '.join(sorted({rule['switch'] for rule in missing}))}")
+            say(
+                f"{count_words(len(missing))} will be put in, at"
+                f" {', '.join(sorted({rule['switch'] for rule in missing}))}"
+            )
         if defaults:
-            say(f"then the default entry of {', '.join(defaults)} will be taken away, alone: packets that no rule takes, and those of other types (ARP, IPv6) without an "
-                "entry of their own, are dropped from then on")
+            say(
+                f"then the default entry of {', '.join(defaults)} will be taken away, alone: packets that no rule"
+                " takes, and those of other types (ARP, IPv6) without an entry of their own, are dropped from then on"
+            )
         if self.options.dry_run:
             say("a dry run ends here: nothing was sent")
             return False
         if self.options.yes:
             return True
         if sys.stdin is None or not (sys.stdin.isatty() and sys.stderr.isatty()):
-            raise Stop("there is no terminal to ask; nothing was sent", "answer it with --yes, or look first with --dry-run")
+            raise Stop(
+                "there is no terminal to ask; nothing was sent", "answer it with --yes, or look first with --dry-run"
+            )
         print("Do it? [y/N] ", end="", file=sys.stderr, flush=True)
         if sys.stdin.readline().strip().lower() in ("y", "yes"):
             return True
@@ -257,13 +311,19 @@ class Adopting:
         """Sends messages to each switch, with a barrier request behind them, and waits for the answers."""
         self.owed = set(messages)
         for name, pieces in messages.items():
-            self.connections().named[name].send(b"".join(pieces) + openflow.message(openflow.BARRIER_REQUEST, ADOPT_BARRIER))
+            self.connections().named[name].send(
+                b"".join(pieces) + openflow.message(openflow.BARRIER_REQUEST, ADOPT_BARRIER)
+            )
         self.until(lambda: not self.owed)
 
     def put(self, missing: Sequence[dict[str, Any]]) -> None:
         """Puts rules in, those of greater priority first."""
         rules = sorted(missing, key=lambda rule: -rule["priority"])
-        plan = {"format": 2, "kind": "ordered", "rules": rules, "rounds": [[["insert", number] for number in range(len(rules))]], "numberings": [], "befores": [], "uses": [], "picks": []}
+        plan = {
+            "format": 2, "kind": "ordered", "rules": rules,
+            "rounds": [[["insert", number] for number in range(len(rules))]], "numberings": [], "befores": [],
+            "uses": [], "picks": [],
+        }
         with tempfile.NamedTemporaryFile("w", encoding="utf-8", prefix="planner-", suffix=".json") as file:
             json.dump(plan, file)
             file.flush()
@@ -281,7 +341,11 @@ class Adopting:
     def take_defaults_away(self, names: Sequence[str]) -> None:
         """Takes the default entry of each of some switches away, and no other one."""
         def strict_delete(entry: Entry) -> bytes:
-            return openflow.message(openflow.FLOW_MOD, ADOPT_XID, entry.data[4:44] + struct.pack("!QHHHHIHH", 0, DELETE_STRICT, 0, 0, entry.priority, 0xFFFFFFFF, 0xFFFF, 0))
+            return openflow.message(
+                openflow.FLOW_MOD, ADOPT_XID,
+                entry.data[4:44]
+                + struct.pack("!QHHHHIHH", 0, DELETE_STRICT, 0, 0, entry.priority, 0xFFFFFFFF, 0xFFFF, 0),
+            )
 
         defaults = {name: self.findings[name].default for name in names}
         self.send({name: [strict_delete(entry)] for name, entry in defaults.items() if entry is not None})
@@ -289,14 +353,26 @@ class Adopting:
     def look(self, rules: Sequence[dict[str, Any]], without_defaults: bool = False) -> None:
         """Reads the tables again: they have to be the rules, and below them perhaps the default entries."""
         self.read()
-        wanted = {name: sorted(map(repr, (rule_key(rule) for rule in rules if rule["switch"] == name))) for name in self.listed}
-        odd = [name for name, one in self.findings.items() if one.faults or sorted(map(repr, one.tests)) != wanted[name] or without_defaults and one.default]
+        wanted = {
+            name: sorted(map(repr, (rule_key(rule) for rule in rules if rule["switch"] == name)))
+            for name in self.listed
+        }
+        odd = [
+            name
+            for name, one in self.findings.items()
+            if one.faults or sorted(map(repr, one.tests)) != wanted[name] or without_defaults and one.default
+        ]
         if odd:
-            raise Stop(f"{', '.join(odd)} {'has' if len(odd) == 1 else 'have'} not what {self.old} says", "see who else changes the tables, and begin again: what they have then is read anew")
+            raise Stop(
+                f"{', '.join(odd)} {'has' if len(odd) == 1 else 'have'} not what {self.old} says",
+                "see who else changes the tables, and begin again: what they have then is read anew",
+            )
 
 
 def parser_of() -> argparse.ArgumentParser:
-    parser = argparse.ArgumentParser(prog="planner adopt", description=__doc__, formatter_class=argparse.RawDescriptionHelpFormatter)
+    parser = argparse.ArgumentParser(
+        prog="planner adopt", description=__doc__, formatter_class=argparse.RawDescriptionHelpFormatter
+    )
     parser.add_argument("folder", metavar="NET")
     parser.add_argument("--switches", metavar="FILE", required=True)
     parser.add_argument("--own", metavar="CONFIG")

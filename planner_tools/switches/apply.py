@@ -56,13 +56,15 @@ from planner_tools.voice import TELLING
 
 # The exit status where warnings end it.
 WARNED = 3
-# The words by which a record is gone on with, as they stand in what is next; they take the place of those that were given.
+# The words by which a record is gone on with, as they stand in what is next; they take the place of those that were
+# given.
 MODE_WORDS = ("--resume", "--back", "--recover", "--repair", "--take-over")
 MODES = re.compile(r"--(?:resume|back)(?: --(?:repair|take-over|recover|no-mark))*")
 
 
 class Update:
-    """An update, round by round: a conversation with the program and the switches, the comparison of their tables, the marks on them, and the pace of rounds."""
+    """An update, round by round: a conversation with the program and the switches, the comparison of their tables, the
+    marks on them, and the pace of rounds."""
 
     def __init__(self, options: argparse.Namespace) -> None:
         self.options = options
@@ -113,11 +115,15 @@ class Update:
         self.comparison.compare()
         self.comparison.compare_as_configuration("after", wanted)
         self.marking.take_away()
-        while not self.conversation.has_all():           # a switch whose connection was lost meanwhile is looked at again
+        # a switch whose connection was lost meanwhile is looked at again
+        while not self.conversation.has_all():
             self.conversation.pump()
         self.comparison.compare_suspects()
         self.record.keep()
-        progress(f"done: {self.what_is_done()}, and the switches have the tables of {wanted}; {time.monotonic() - begun:.1f} s; the record is {self.options.input}")
+        progress(
+            f"done: {self.what_is_done()}, and the switches have the tables of {wanted};"
+            f" {time.monotonic() - begun:.1f} s; the record is {self.options.input}"
+        )
 
     def what_is_done(self) -> str:
         if not self.options.back:
@@ -132,10 +138,13 @@ class Update:
 
     def is_to_go_on(self) -> bool:
         """Whether there is a round that runs, or a next one on the way that is asked for."""
-        return self.core.is_running or (self.core.settled > 0 if self.options.back else self.core.settled < self.core.rounds)
+        return self.core.is_running or (
+            self.core.settled > 0 if self.options.back else self.core.settled < self.core.rounds
+        )
 
     def turn(self) -> None:
-        """Turns the running round. Its messages are sent when the switches are there: to each that has what it must have, behind `reopen`."""
+        """Turns the running round. Its messages are sent when the switches are there: to each that has what it must
+        have, behind `reopen`."""
         words = f"round {self.core.number()} is turned back"
         self.record.remark(words)
         progress(words)
@@ -143,16 +152,23 @@ class Update:
         self.conversation.follow()
 
     def may_begin(self) -> bool:
-        """Whether there is a next round, every switch is there, and the packets that entered before have left, by the operator's rule."""
+        """Whether there is a next round, every switch is there, and the packets that entered before have left, by the
+        operator's rule."""
         if self.core.is_running or not self.is_to_go_on() or not self.conversation.are_all_there():
             return False
-        next_round = f"the undoing of round {self.core.settled}" if self.options.back else f"round {self.core.settled + 1}"
+        next_round = (
+            f"the undoing of round {self.core.settled}" if self.options.back else f"round {self.core.settled + 1}"
+        )
         return self.pace.may_begin(f"{next_round} of {self.core.rounds}")
 
     def begin_round(self) -> None:
         """Begins the next round, or to undo the one that was settled last."""
         waited = self.pace.waited()
-        self.record.remark(f"round {self.core.settled} is undone, {waited}" if self.options.back else f"round {self.core.settled + 1} starts, {waited}")
+        self.record.remark(
+            f"round {self.core.settled} is undone, {waited}"
+            if self.options.back
+            else f"round {self.core.settled + 1} starts, {waited}"
+        )
         self.pace.round_begins()
         self.record.give("back" if self.options.back else "start")
         self.conversation.follow()
@@ -187,7 +203,10 @@ def stopped(update: Update | None, options: argparse.Namespace, why: BaseExcepti
     elif isinstance(why, KeyboardInterrupt):
         what, then = ends.interrupt_words(why), go_on
     else:
-        what, then = f"{why.filename}: {why.strerror}" if isinstance(why, OSError) and why.filename else str(why), f"see to it; then {go_on}"
+        what, then = (
+            f"{why.filename}: {why.strerror}" if isinstance(why, OSError) and why.filename else str(why),
+            f"see to it; then {go_on}",
+        )
     then, far = other_ways(update, options, then), how_far(update, options)
     if update is not None:
         note_end(update, options, f"stopped: {what}; {far}. Next: {then}")
@@ -218,19 +237,26 @@ def note_end(update: Update, options: argparse.Namespace, words: str) -> None:
 def typed(words: Sequence[str], then: str) -> str:
     """The command that does what is next, as it can be typed, behind the words that say it."""
     found = MODES.search(then)
-    return f" (`{shlex.join([program.typed(), 'apply', *(word for word in words if word not in MODE_WORDS), *found[0].split()])}`)" if found else ""
+    if not found:
+        return ""
+    others = [word for word in words if word not in MODE_WORDS]
+    return f" (`{shlex.join([program.typed(), 'apply', *others, *found[0].split()])}`)"
 
 
 def other_ways(update: Update | None, options: argparse.Namespace, then: str) -> str:
     """What to do next, for the way on which the update is; and that it can be turned."""
     is_begun = update is not None and update.is_open() and update.core.begun
     if options.back:
-        return then.replace("--resume", "--back") + ("; --resume in its place carries the update out again" if is_begun else "")
+        return then.replace("--resume", "--back") + (
+            "; --resume in its place carries the update out again" if is_begun else ""
+        )
     return then + ("; --back in its place turns the update back" if is_begun and "--resume" in then else "")
 
 
 def parser_of_words() -> argparse.ArgumentParser:
-    parser = argparse.ArgumentParser(prog="planner apply", description=__doc__, formatter_class=argparse.RawDescriptionHelpFormatter)
+    parser = argparse.ArgumentParser(
+        prog="planner apply", description=__doc__, formatter_class=argparse.RawDescriptionHelpFormatter
+    )
     for name in ("topology", "old", "new", "policy", "plan", "input"):
         parser.add_argument(name, metavar=name.upper())
     parser.add_argument("--switches", metavar="FILE", required=True)
@@ -256,7 +282,10 @@ def is_ended_by_warnings(options: argparse.Namespace, how: How) -> bool:
     except program.CannotRun:
         return False         # that is said where the program is begun
     if is_ended:
-        say(f"stopped: there are warnings, and --strict is given; nothing was sent{' in this run' if options.resume else ''}. Next: correct what they name, or leave out --strict")
+        say(
+            "stopped: there are warnings, and --strict is given; nothing was"
+            f" sent{' in this run' if options.resume else ''}. Next: correct what they name, or leave out --strict"
+        )
     return is_ended
 
 

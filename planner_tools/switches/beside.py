@@ -17,14 +17,20 @@ def path() -> str:
 
 def not_run(fault: BaseException) -> Stop:
     """What it is that the program can't be run."""
-    return Stop(f"the program can't be run: {fault}", "see that it is there; then do the same again, with --resume where a record is there")
+    return Stop(
+        f"the program can't be run: {fault}",
+        "see that it is there; then do the same again, with --resume where a record is there",
+    )
 
 
 def run_beside(words: Sequence[Any], meanwhile: Callable[[], None]) -> tuple[int, str]:
-    """The exit status of a run of the program, and its text in one piece. `meanwhile` is called again and again until it ends, and takes some time."""
+    """The exit status of a run of the program, and its text in one piece. `meanwhile` is called again and again until
+    it ends, and takes some time."""
     try:
         # in a session of its own, since a key that ends this script isn't meant for the program
-        done = subprocess.Popen([path(), *map(str, words)], stdin=subprocess.DEVNULL, stdout=subprocess.PIPE, start_new_session=True)
+        done = subprocess.Popen(
+            [path(), *map(str, words)], stdin=subprocess.DEVNULL, stdout=subprocess.PIPE, start_new_session=True
+        )
     except OSError as fault:
         raise not_run(fault) from None
     assert done.stdout is not None

@@ -48,9 +48,17 @@ NICIRA = 0x2320
 
 def questions(base: int) -> bytes:
     """The questions for the table of a switch, with xids over this number."""
-    return (openflow.message(openflow.STATS_REQUEST, base + FLOW_XID, struct.pack("!HH", 1, 0) + EVERY_PACKET + struct.pack("!BxH", 0xFF, 0xFFFF))
-            + openflow.message(openflow.STATS_REQUEST, base + EXTENDED_XID, struct.pack("!HHII4xHHB3x", 0xFFFF, 0, NICIRA, 0, 0xFFFF, 0, 0xFF))
-            + openflow.message(openflow.BARRIER_REQUEST, base + BARRIER_XID))
+    return (
+        openflow.message(
+            openflow.STATS_REQUEST, base + FLOW_XID,
+            struct.pack("!HH", 1, 0) + EVERY_PACKET + struct.pack("!BxH", 0xFF, 0xFFFF),
+        )
+        + openflow.message(
+            openflow.STATS_REQUEST, base + EXTENDED_XID,
+            struct.pack("!HHII4xHHB3x", 0xFFFF, 0, NICIRA, 0, 0xFFFF, 0, 0xFF),
+        )
+        + openflow.message(openflow.BARRIER_REQUEST, base + BARRIER_XID)
+    )
 
 
 class Tables:
@@ -102,7 +110,10 @@ class Tables:
             answers.extended = None       # the switch has no such statistics
         elif kind == openflow.ERROR and xid in (FLOW_XID, BARRIER_XID):
             words = openflow.error_words(int.from_bytes(message[8:10], "big"), int.from_bytes(message[10:12], "big"))
-            raise Stop(f"{connection.name} refused the question for its table: {words}", "see that it speaks OpenFlow 1.0, and ask again")
+            raise Stop(
+                f"{connection.name} refused the question for its table: {words}",
+                "see that it speaks OpenFlow 1.0, and ask again",
+            )
         elif kind == openflow.BARRIER_REPLY and xid == BARRIER_XID:
             answers.is_whole = True
         return True
@@ -124,11 +135,13 @@ class Tables:
 
     def has_tagging_entries(self) -> bool:
         """Whether there are entries of the priorities that only two-phase plans use."""
-        return any(one.priority > LAST_PRIORITY and not one.oddity() for name in self.names for one in self.entries(name))
+        return any(
+            one.priority > LAST_PRIORITY and not one.oddity() for name in self.names for one in self.entries(name)
+        )
 
     def replies(self) -> str:
-        """The text of the file REPLIES. Where an entry must be refused, all such are said, and then it is Stop. Those that an update under way has made are
-        counted alone."""
+        """The text of the file REPLIES. Where an entry must be refused, all such are said, and then it is Stop. Those
+        that an update under way has made are counted alone."""
         lines, faults, of_update = [], [], 0
         marks = self.marks()
         for name in self.names:
@@ -142,12 +155,24 @@ class Tables:
         for fault in faults:
             say(fault)
         if of_update:
-            raise Stop(f"an update is under way: {', '.join(name for names in marks.values() for name in names)} {'has' if sum(map(len, marks.values())) == 1 else 'have'} its mark, "
-                       f"{'; '.join(map(str, marks))}; {of_update} entries are of its making, of priorities above {LAST_PRIORITY}, and can't be said in a configuration"
-                       f"{f'; {len(faults)} more stand above' if faults else ''}",
-                       "carry it on with its record by `planner apply .. RECORD --resume`, or turn it back by --back (--recover makes the record anew where it is lost); then ask again")
+            marked = [name for names in marks.values() for name in names]
+            raise Stop(
+                (
+                    f"an update is under way: {', '.join(marked)} {'has' if len(marked) == 1 else 'have'} its mark,"
+                    f" {'; '.join(map(str, marks))}; {of_update} entries are of its making, of priorities above"
+                    f" {LAST_PRIORITY}, and can't be said in a"
+                    f" configuration{f'; {len(faults)} more stand above' if faults else ''}"
+                ),
+                (
+                    "carry it on with its record by `planner apply .. RECORD --resume`, or turn it back by --back"
+                    " (--recover makes the record anew where it is lost); then ask again"
+                ),
+            )
         if faults:
-            raise Stop(f"{len(faults)} of the entries can't be said in a configuration: they stand above", "change them at the switches; docs/CONTROLLER.md says how")
+            raise Stop(
+                f"{len(faults)} of the entries can't be said in a configuration: they stand above",
+                "change them at the switches; docs/CONTROLLER.md says how",
+            )
         return "".join(f"{line}\n" for line in lines)
 
 
@@ -158,20 +183,30 @@ class Reading:
         self.name = name
         self.lines = []
         self.faults = []
-        self.of_update: list[str] = []          # those of the faults that speak of entries as a two-phase plan makes them
+        # those of the faults that speak of entries as a two-phase plan makes them
+        self.of_update: list[str] = []
         self.untagged, self.cookies, self.is_to_controller = 0, 0, False
         self.tests: list[tuple[int, int | str, int | str, int, int]] = []
         self.left_out: dict[str, int] = {}
         try:
             for reply in flow:
                 kept = b"".join(self.keep(Entry(data)) for data in cut_entries(reply[12:], 88))
-                self.lines.append(f"{name} {openflow.message(openflow.STATS_REPLY, OWN + FLOW_XID, reply[8:12] + kept).hex()}")
+                self.lines.append(
+                    f"{name} {openflow.message(openflow.STATS_REPLY, OWN + FLOW_XID, reply[8:12] + kept).hex()}"
+                )
             if extended is not None:
                 self.compare([ExtendedEntry(data) for reply in extended for data in cut_entries(reply[24:], 48)])
         except (ValueError, struct.error):
             self.faults.append(f"{name}: entries don't fill its statistics")
-        remarks = [f"# {name}: left out {count} entries {why}; they take room beside the capacity" for why, count in self.left_out.items()]
-        remarks += [f"# {name}: a test of the priority of the tag was taken from {self.untagged} entries for untagged packets"] if self.untagged else []
+        remarks = [
+            f"# {name}: left out {count} entries {why}; they take room beside the capacity"
+            for why, count in self.left_out.items()
+        ]
+        remarks += (
+            [f"# {name}: a test of the priority of the tag was taken from {self.untagged} entries for untagged packets"]
+            if self.untagged
+            else []
+        )
         remarks += [f"# {name}: what no entry takes is sent to the controller"] if self.is_to_controller else []
         remarks += [f"# {name}: {self.cookies} of its entries have a cookie"] if self.cookies else []
         remarks += [f"# {name}: it has no extended statistics, and is taken at its word"] if extended is None else []
@@ -198,16 +233,25 @@ class Reading:
         shown, faults = [one for one in extended if one.table == 0 and not one.without_effect()], []
         for one in shown:
             if one.widened:
-                faults.append(f"{self.name}: an entry of priority {one.priority} tests {', '.join(one.widened)}, which OpenFlow 1.0 can't say: "
-                              "its statistics show it wider than it is")
-        if not faults and not self.faults and sorted(map(repr, self.tests)) != sorted(repr(one.test()) for one in shown):
-            faults.append(f"{self.name}: its two statistics differ: the table changed meanwhile, or has what isn't understood here")
+                faults.append(
+                    f"{self.name}: an entry of priority {one.priority} tests {', '.join(one.widened)}, which OpenFlow"
+                    " 1.0 can't say: its statistics show it wider than it is"
+                )
+        if (
+            not faults
+            and not self.faults
+            and sorted(map(repr, self.tests)) != sorted(repr(one.test()) for one in shown)
+        ):
+            faults.append(
+                f"{self.name}: its two statistics differ: the table changed meanwhile, or has what isn't understood"
+                " here"
+            )
         self.faults += faults
 
 
 def entry_at(path: str, refusal: str) -> str | None:
-    """The switch and the entry of which a refusal of `planner import` speaks, in words, or None. `path` has the statistics; of entries it names the
-    number, counted from 0 over the file."""
+    """The switch and the entry of which a refusal of `planner import` speaks, in words, or None. `path` has the
+    statistics; of entries it names the number, counted from 0 over the file."""
     shown = re.fullmatch(r"bad replies: \d+ (\w+)(?: \w+)? at (\d+)\n?", refusal)
     if shown is None or shown[1] in ("TooLong", "TooMany", "Incomplete", "OverCapacity"):
         return None
@@ -229,7 +273,8 @@ def entry_at(path: str, refusal: str) -> str | None:
 
 
 def read(options: argparse.Namespace) -> Tables:
-    """Reads the tables of all switches: `options` has the topology, the file of switches, where they connect to, and the patience."""
+    """Reads the tables of all switches: `options` has the topology, the file of switches, where they connect to, and
+    the patience."""
     switches = None
     try:
         listed = read_switches(options.switches, options.topology)
@@ -238,7 +283,10 @@ def read(options: argparse.Namespace) -> Tables:
         while tables.missing():
             if time.monotonic() > until:
                 names = ", ".join(f"{name}{switches.why_away(name)}" for name in sorted(tables.missing()))
-                raise Stop(f"no answer from {names} within {options.patience:g} s", "see that they are connected, and ask again")
+                raise Stop(
+                    f"no answer from {names} within {options.patience:g} s",
+                    "see that they are connected, and ask again",
+                )
             for what, connection, message in switches.poll(0.05):
                 if what == "up":
                     tables.ask(connection)
@@ -251,7 +299,9 @@ def read(options: argparse.Namespace) -> Tables:
 
 
 def main(words: Sequence[str]) -> int:
-    parser = argparse.ArgumentParser(prog="planner collect", description=__doc__, formatter_class=argparse.RawDescriptionHelpFormatter)
+    parser = argparse.ArgumentParser(
+        prog="planner collect", description=__doc__, formatter_class=argparse.RawDescriptionHelpFormatter
+    )
     parser.add_argument("topology", metavar="TOPOLOGY")
     parser.add_argument("--switches", metavar="FILE", required=True)
     parser.add_argument("--listen", metavar="HOST:PORT", type=host_and_port)

@@ -20,7 +20,9 @@ from planner_tools.switches.pace import Pace
 
 REPAIR_XID, REPAIR_BARRIER = OWN + 0x20, OWN + 0x21
 # `check` accepts it exactly where the two configurations have the same tables and good paths.
-NO_ROUNDS = {"format": 2, "kind": "ordered", "rules": [], "rounds": [], "numberings": [], "befores": [], "uses": [], "picks": []}
+NO_ROUNDS = {
+    "format": 2, "kind": "ordered", "rules": [], "rounds": [], "numberings": [], "befores": [], "uses": [], "picks": [],
+}
 # So many differences are noted in the record, and so often a repair is tried.
 NOTED, TRIES = 50, 3
 
@@ -31,17 +33,21 @@ class Comparison:
     def __init__(self, options: argparse.Namespace, conversation: Conversation, marking: Marking, pace: Pace) -> None:
         self.options, self.conversation, self.marking, self.pace = options, conversation, marking, pace
         self.record = conversation.record
-        self.expected: tuple[int, Expected] | None = None        # what the switches must have, and how much `serve` had been given by then
+        # what the switches must have, and how much `serve` had been given by then
+        self.expected: tuple[int, Expected] | None = None
         self.suspects: set[str] = set()  # the switches that answered otherwise when they came back
         self.is_reading = False          # whether all switches are being read
-        self.compared_at = self.record.last_compared and f"{self.record.last_compared}Z"         # when the tables were last as they must be
+        # when the tables were last as they must be
+        self.compared_at = self.record.last_compared and f"{self.record.last_compared}Z"
 
     def must_have(self) -> Expected:
         """What the switches must have by what `serve` has said."""
         followed = self.conversation.followed
         if self.expected is None or self.expected[0] != followed:
             with temporary("schedule", self.conversation.core.schedule().encode()) as name:
-                status, text = self.conversation.ask("tables", self.options.topology, self.options.old, self.options.plan, name)
+                status, text = self.conversation.ask(
+                    "tables", self.options.topology, self.options.old, self.options.plan, name
+                )
             if status != 0:
                 raise Stop(f"`planner tables` ended with status {status}{f' and said: {text.strip()}' if text else ''}",
                            "see that the program can run, and is as new as these scripts; then go on with --resume")
@@ -57,7 +63,9 @@ class Comparison:
             found: list[Difference | MissingMark] = [*self.must_have().differences(name, answers, is_undone)]
             marks = answers.marks()
         except (ValueError, struct.error):
-            raise Stop(f"{name}: entries don't fill its statistics", "see what is at the other end of the connection") from None
+            raise Stop(
+                f"{name}: entries don't fill its statistics", "see what is at the other end of the connection"
+            ) from None
         self.marking.mind_others(name, marks)
         if self.marking.is_marked and self.marking.mark not in marks:
             found.append(MissingMark(name, self.marking.mark))
@@ -68,7 +76,8 @@ class Comparison:
         return not found or self.options.repair and all(one.can_be_repaired() for one in found)
 
     def look_at_returned(self, connection: Connection) -> None:
-        """A switch that has connected has answered the questions for its table. Where all switches are being read, it is compared with them."""
+        """A switch that has connected has answered the questions for its table. Where all switches are being read, it
+        is compared with them."""
         if self.is_reading:
             return
         if self.suspects or self.differences(connection.name):
@@ -81,8 +90,8 @@ class Comparison:
         return not self.is_reading and not self.suspects
 
     def compare(self) -> bool:
-        """Asks every switch for its table, and compares. Whether nothing had to be put right; where something isn't as it must be it is Stop, or is put
-        right, by --repair."""
+        """Asks every switch for its table, and compares. Whether nothing had to be put right; where something isn't as
+        it must be it is Stop, or is put right, by --repair."""
         is_first, tries = True, 0
         while True:
             found = self.read_all()
@@ -109,13 +118,15 @@ class Comparison:
     def read_all(self) -> "list[Difference | MissingMark]":
         """The differences of all switches, which are asked now."""
         conversation = self.conversation
-        self.is_reading = True        # nothing is sent that changes a table meanwhile, so all answers are of the same state
+        # nothing is sent that changes a table meanwhile, so all answers are of the same state
+        self.is_reading = True
         for name in conversation.listed:
             conversation.tables.forget(name)
         for connection in list(conversation.named.values()):
             conversation.tables.ask(connection)
         found = None
-        while found is None or not conversation.has_all():       # a switch that came back while a program ran has answered on a connection that is no more
+        # a switch that came back while a program ran has answered on a connection that is no more
+        while found is None or not conversation.has_all():
             while not conversation.has_all():
                 conversation.pump()
             self.marking.foreign = {}
@@ -130,21 +141,37 @@ class Comparison:
         for one in found[:NOTED]:
             self.record.remark(str(one))
         since = f"since {self.compared_at}, when all was as it must be, " if self.compared_at else ""
-        say(f"{since}packets that fit these entries may have been dropped, sent elsewhere or sent with another VLAN at {', '.join(sorted({one.switch for one in found}))}")
+        say(
+            f"{since}packets that fit these entries may have been dropped, sent elsewhere or sent with another VLAN at"
+            f" {', '.join(sorted({one.switch for one in found}))}"
+        )
 
     def differs(self, found: "Sequence[Difference | MissingMark]") -> Stop:
         names = sorted({one.switch for one in found})
-        what = f"{entries(len(found))} of {', '.join(names)} {'is' if len(found) == 1 else 'are'} not as they must be, and said above"
+        what = (
+            f"{entries(len(found))} of {', '.join(names)} {'is' if len(found) == 1 else 'are'} not as they must be, and"
+            " said above"
+        )
         what += self.marking.foreign_words()
         by_hand = [str(one) for one in found if not one.can_be_repaired()]
         if by_hand:
-            return Stop(f"{what}; {entries(len(by_hand))} of them no message of a plan can reach, as {by_hand[0]}", "take these away at the switch by hand; then go on with --resume, or --resume --repair")
+            return Stop(
+                f"{what}; {entries(len(by_hand))} of them no message of a plan can reach, as {by_hand[0]}",
+                "take these away at the switch by hand; then go on with --resume, or --resume --repair",
+            )
         if self.conversation.core.begun:
-            return Stop(what, "go on with --resume --repair, which sends what is missing and takes away what is too much; or put it right by hand, and go on with --resume")
+            return Stop(
+                what,
+                (
+                    "go on with --resume --repair, which sends what is missing and takes away what is too much; or put"
+                    " it right by hand, and go on with --resume"
+                ),
+            )
         return Stop(f"{what}. So the switches don't have the tables of {self.options.old}", self.before_the_beginning())
 
     def before_the_beginning(self) -> str:
-        """What to do where the switches don't have OLD: the program says whether a plan can start from what they have."""
+        """What to do where the switches don't have OLD: the program says whether a plan can start from what they
+        have."""
         repair = self.ways_to_repair()
         config = f"{self.options.input}.before.json"
         try:
@@ -153,23 +180,36 @@ class Comparison:
             return f"{repair}. No plan can start from what they have: a configuration can't say it"
         if status != 0:
             where = entry_at(f"{self.options.input}.before", text)
-            return f"{repair}. No plan can start from what they have: `planner import` says {text.strip()}{f', which is {where}' if where else ''}"
+            return (
+                f"{repair}. No plan can start from what they have: `planner import` says"
+                f" {text.strip()}{f', which is {where}' if where else ''}"
+            )
         write(config, text)
         status, text = self.conversation.ask("config", self.options.topology, config, self.options.policy)
         if status != 0:
             return f"{repair}. No plan can start from what they have: `planner config` says {text.strip()}"
-        return f"make a plan from {config}, which has those that they have, and begin it with a record of its own; or {repair}"
+        return (
+            f"make a plan from {config}, which has those that they have, and begin it with a record of its own; or"
+            f" {repair}"
+        )
 
     def ways_to_repair(self) -> str:
         """How the switches get the tables of OLD, or how an update is gone on with that was begun before."""
         repair = f"go on with --resume --repair, which gives the switches the tables of {self.options.old}"
         if self.marking.foreign:
             record = self.marking.foreign_record()
-            repair = (f"carry that update on with its own record{f', {record},' if record else ''} by --resume, or turn it back by --back (--recover makes its record anew where it is lost); or "
-                      f"go on with --resume --take-over --repair, which gives the switches the tables of {self.options.old}, entry by entry: packets may be dropped meanwhile")
+            repair = (
+                f"carry that update on with its own record{f', {record},' if record else ''} by --resume, or turn it"
+                " back by --back (--recover makes its record anew where it is lost); or go on with --resume"
+                f" --take-over --repair, which gives the switches the tables of {self.options.old}, entry by entry:"
+                " packets may be dropped meanwhile"
+            )
         where = under_way.standing_of(files_of(self.options), self.conversation.tables)
         if where is not None and not where.wrong and where.settled + where.is_running:
-            repair = f"where they are those of this plan, as it was carried out ({where}), and its record is lost, --recover with another record goes on from there; or {repair}"
+            repair = (
+                f"where they are those of this plan, as it was carried out ({where}), and its record is lost, --recover"
+                f" with another record goes on from there; or {repair}"
+            )
         return repair
 
     def repair(self, found: "Sequence[Difference | MissingMark]") -> None:
@@ -181,8 +221,13 @@ class Comparison:
         others = [one for one in found if not isinstance(one, MissingMark)]
         path = f"{self.options.input}.repair.json"
         for name, pieces in self.repairing_messages(path, others).items():
-            self.conversation.say_to(name, b"".join(with_own_xid(one, is_last=one is pieces[-1]) for one in pieces), REPAIR_BARRIER)
-        words = f"what differs at {', '.join(sorted({one.switch for one in found}))} is put right: {entries(len(others))} by the messages of `planner emit` for {path}"
+            self.conversation.say_to(
+                name, b"".join(with_own_xid(one, is_last=one is pieces[-1]) for one in pieces), REPAIR_BARRIER
+            )
+        words = (
+            f"what differs at {', '.join(sorted({one.switch for one in found}))} is put right:"
+            f" {entries(len(others))} by the messages of `planner emit` for {path}"
+        )
         self.record.remark(words)
         self.record.keep()
         progress(words)
@@ -194,7 +239,10 @@ class Comparison:
         write(path, json.dumps(repair_plan(others)) + "\n")
         status, text = self.conversation.ask("emit", self.options.topology, path) if others else (0, "")
         if status != 0:
-            raise Stop(f"`planner emit` refuses the repair {path}: {text.strip()}", "put the entries right by hand; then go on with --resume")
+            raise Stop(
+                f"`planner emit` refuses the repair {path}: {text.strip()}",
+                "put the entries right by hand; then go on with --resume",
+            )
         messages: dict[str, list[bytes]] = {}
         for line in text.splitlines():
             _, name, data = line.split(" ")
@@ -202,7 +250,8 @@ class Comparison:
         return messages
 
     def put_marks(self) -> None:
-        """Puts the mark of the update on every switch, and reads the tables again, so of two controllers one at least sees the other's mark."""
+        """Puts the mark of the update on every switch, and reads the tables again, so of two controllers one at least
+        sees the other's mark."""
         if not self.options.no_mark:
             self.marking.put()
             self.compare()
@@ -210,7 +259,10 @@ class Comparison:
     def was_refused(self, name: str, xid: int, words: str) -> None:
         """A switch refuses a message: where it is one of a repair, it is Stop."""
         if xid == REPAIR_XID:
-            raise Stop(f"{name} refuses a message of the repair: {words}", "see why; then go on with --resume --repair, or put its table right by hand and go on with --resume")
+            raise Stop(
+                f"{name} refuses a message of the repair: {words}",
+                "see why; then go on with --resume --repair, or put its table right by hand and go on with --resume",
+            )
 
     def import_tables(self, word: str) -> tuple[int, str]:
         """What `planner import` makes of what the switches answered."""
@@ -226,15 +278,25 @@ class Comparison:
             where = entry_at(f"{self.options.input}.{word}", text)
             say_why("import", self.options.topology, f"{self.options.input}.{word}")
             next_step = "go on with --resume" if self.conversation.core.begun else "begin again with another record"
-            raise Stop(f"`planner import` refuses the tables of the switches: {text.strip()}{f', which is {where}' if where else ''}",
-                       f"change it at the switch, docs/FORMATS.md says what is wrong with it; then {next_step}")
+            raise Stop(
+                (
+                    "`planner import` refuses the tables of the switches:"
+                    f" {text.strip()}{f', which is {where}' if where else ''}"
+                ),
+                f"change it at the switch, docs/FORMATS.md says what is wrong with it; then {next_step}",
+            )
         write(config, text)
         with temporary("plan", json.dumps(NO_ROUNDS).encode()) as name:
-            status, text = self.conversation.ask("check", self.options.topology, config, path, self.options.policy, name)
+            status, text = self.conversation.ask(
+                "check", self.options.topology, config, path, self.options.policy, name
+            )
             if status != 0:
                 say_why("check", self.options.topology, config, path, self.options.policy, name)
         if status != 0:
-            raise Stop(f"the switches don't have the tables of {path}: {text.strip()}", f"compare {config}, which has those that they have, with {path}")
+            raise Stop(
+                f"the switches don't have the tables of {path}: {text.strip()}",
+                f"compare {config}, which has those that they have, with {path}",
+            )
         self.record.remark(f"the switches have the tables of {path}")
         progress(f"the switches have the tables of {path}")
 
@@ -253,7 +315,8 @@ class MissingMark:
 
 
 def with_own_xid(message: bytes, is_last: bool) -> bytes:
-    """A message of `emit` with an xid of this script's, so that its answer isn't taken for one to `serve`. The rest stays."""
+    """A message of `emit` with an xid of this script's, so that its answer isn't taken for one to `serve`. The rest
+    stays."""
     return message[:4] + (REPAIR_BARRIER if is_last else REPAIR_XID).to_bytes(4, "big") + message[8:]
 
 

@@ -1,9 +1,11 @@
 """The connections to the switches of a network: which connection is which switch, and the messages that come.
 
-The file of switches has a line for each switch, `NAME DATAPATH` or `NAME DATAPATH HOST:PORT`: its name in the topology, its datapath id in 16
-hexadecimal digits, and where it listens. A switch without an address connects to us. `#` begins a comment.
+The file of switches has a line for each switch, `NAME DATAPATH` or `NAME DATAPATH HOST:PORT`: its name in the topology,
+its datapath id in 16 hexadecimal digits, and where it listens. A switch without an address connects to us. `#` begins a
+comment.
 
-Nothing here waits for one switch while another one has something to say: connections are made, bytes sent and taken as far as that goes at once.
+Nothing here waits for one switch while another one has something to say: connections are made, bytes sent and taken as
+far as that goes at once.
 """
 from __future__ import annotations
 
@@ -63,21 +65,34 @@ def read_switches(path: str, topology: str) -> dict[str, tuple[int, tuple[str, i
             except (IndexError, ValueError):
                 good = False
             if not good or datapath in [it for it, _ in listed.values()]:
-                raise Stop(f"{path}, line {number}: not `NAME DATAPATH [HOST:PORT]` of a switch of the topology, or it stands twice", "correct the line")
+                raise Stop(
+                    (
+                        f"{path}, line {number}: not `NAME DATAPATH [HOST:PORT]` of a switch of the topology, or it"
+                        " stands twice"
+                    ),
+                    "correct the line",
+                )
             listed[name] = (datapath, address)
     missing = [name for name in declared if name not in listed]
     if missing:
-        raise Stop(f"{path} has no line for {', '.join(missing)}", "add the lines: every switch of the topology is asked for its table")
+        raise Stop(
+            f"{path} has no line for {', '.join(missing)}",
+            "add the lines: every switch of the topology is asked for its table",
+        )
     return {name: listed[name] for name in declared}
 
 
 def lock(path: str) -> BinaryIO:
-    """Locks the file of switches for this run: of the runs on one machine one at a time is at work with it. The file, which has to stay open."""
+    """Locks the file of switches for this run: of the runs on one machine one at a time is at work with it. The file,
+    which has to stay open."""
     file = open(path, "rb")
     try:
         fcntl.flock(file, fcntl.LOCK_EX | fcntl.LOCK_NB)
     except BlockingIOError:
-        raise Stop(f"another run is at work with the switches of {path}", "wait for its end: two controllers at once break what each of them keeps") from None
+        raise Stop(
+            f"another run is at work with the switches of {path}",
+            "wait for its end: two controllers at once break what each of them keeps",
+        ) from None
     return file
 
 
@@ -94,8 +109,8 @@ def declared_switches(topology: str) -> list[str]:
 
 
 def host_and_port(text: str) -> tuple[str, int]:
-    """The host and the port of `HOST:PORT`, `[ADDRESS]:PORT` for an address of IPv6, and these behind `tcp:`, as Open vSwitch writes them; ValueError where it is none.
-    A port alone is one of all addresses of this machine."""
+    """The host and the port of `HOST:PORT`, `[ADDRESS]:PORT` for an address of IPv6, and these behind `tcp:`, as Open
+    vSwitch writes them; ValueError where it is none. A port alone is one of all addresses of this machine."""
     text = text.removeprefix("tcp:") if text.count(":") > 1 else text
     host, _, port = text.rpartition(":")
     if ":" in host and not (host.startswith("[") and host.endswith("]")) or not 0 < int(port) < 1 << 16:
@@ -107,9 +122,15 @@ def listed_address(text: str, where: str) -> tuple[str, int]:
     """The address of a switch in a file of switches."""
     kind = text.partition(":")[0]
     if kind in ("ssl", "pssl", "unix", "punix"):
-        raise Stop(f"{where}: {text}: the connection is made over TCP alone, and not by {kind}", "let the switch listen by `ptcp:PORT`, and write HOST:PORT")
+        raise Stop(
+            f"{where}: {text}: the connection is made over TCP alone, and not by {kind}",
+            "let the switch listen by `ptcp:PORT`, and write HOST:PORT",
+        )
     if kind == "ptcp":
-        raise Stop(f"{where}: {text} is what the switch does; here stands where it is reached", f"write HOST:{text.split(':')[1]}")
+        raise Stop(
+            f"{where}: {text} is what the switch does; here stands where it is reached",
+            f"write HOST:{text.split(':')[1]}",
+        )
     if text.isdigit():
         raise Stop(f"{where}: {text} is a port without a host", f"write HOST:{text}")
     try:
@@ -117,7 +138,10 @@ def listed_address(text: str, where: str) -> tuple[str, int]:
     except ValueError:
         bracketed = text.rpartition(":")
         hint = f", as [{bracketed[0]}]:{bracketed[2]}" if text.count(":") > 1 else ""
-        raise Stop(f"{where}: {text} isn't HOST:PORT", f"write the host and a port from 1 to 65535{hint}; an address of IPv6 stands in brackets") from None
+        raise Stop(
+            f"{where}: {text} isn't HOST:PORT",
+            f"write the host and a port from 1 to 65535{hint}; an address of IPv6 stands in brackets",
+        ) from None
 
 
 def address_words(address: tuple[str, int]) -> str:
@@ -127,7 +151,8 @@ def address_words(address: tuple[str, int]) -> str:
 
 
 class Connection:
-    """A connection: first it says which switch it is, then it hands on whole messages. Requests for an echo are answered here."""
+    """A connection: first it says which switch it is, then it hands on whole messages. Requests for an echo are
+    answered here."""
 
     def __init__(self, sock: socket.socket, peer: str, expected: str | None = None, is_made: bool = True) -> None:
         self.sock, self.peer, self.expected, self.is_made = sock, peer, expected, is_made
@@ -147,7 +172,8 @@ class Connection:
         self.send(openflow.HELLO_BYTES)
 
     def send(self, data: bytes) -> None:
-        """Sends bytes, or keeps them until they can be sent. Where that fails the connection is over, and `receive` says so next."""
+        """Sends bytes, or keeps them until they can be sent. Where that fails the connection is over, and `receive`
+        says so next."""
         self.unsent += data
         if self.is_made:
             self.flush()
@@ -189,7 +215,12 @@ class Connection:
     def is_echo(self, piece: bytes) -> bool:
         """Whether it is a request for an echo behind the HELLO: it is answered at once, by its own bytes."""
         self.is_open = self.is_open or piece[0] != 0 and openflow.type_of(piece) == openflow.HELLO
-        if not self.is_open or piece[0] != 1 or openflow.type_of(piece) != openflow.ECHO_REQUEST or not openflow.is_message(piece):
+        if (
+            not self.is_open
+            or piece[0] != 1
+            or openflow.type_of(piece) != openflow.ECHO_REQUEST
+            or not openflow.is_message(piece)
+        ):
             return False
         self.send(piece[:1] + bytes([openflow.ECHO_REPLY]) + piece[2:])
         return True
@@ -202,7 +233,11 @@ class Connection:
                 return None
             if not self.early:
                 self.send(openflow.message(openflow.FEATURES_REQUEST, FEATURES_XID))
-            if openflow.type_of(piece) == openflow.FEATURES_REPLY and len(piece) >= 32 and openflow.xid_of(piece) == FEATURES_XID:
+            if (
+                openflow.type_of(piece) == openflow.FEATURES_REPLY
+                and len(piece) >= 32
+                and openflow.xid_of(piece) == FEATURES_XID
+            ):
                 self.datapath = int.from_bytes(piece[8:16], "big")
                 self.early += pieces[number + 1:]
                 return []
@@ -215,28 +250,43 @@ Heard = tuple[str, Connection, bytes]
 
 
 class Switches:
-    """All connections. New ones are made or taken, and each gets its name. A connection may take `patience` seconds to say which switch it is."""
+    """All connections. New ones are made or taken, and each gets its name. A connection may take `patience` seconds to
+    say which switch it is."""
 
-    def __init__(self, listed: dict[str, tuple[int, tuple[str, int] | None]], listen: tuple[str, int] | None = None, patience: float = 10.0) -> None:
+    def __init__(
+        self, listed: dict[str, tuple[int, tuple[str, int] | None]], listen: tuple[str, int] | None = None,
+        patience: float = 10.0,
+    ) -> None:
         self.listed, self.patience = listed, patience
         self.named: dict[str, Connection] = {}          # the connection of each switch that has one
         self.selector = selectors.DefaultSelector()
         self.due = {name: 0.0 for name, (_, address) in listed.items() if address is not None}
         self.tried: dict[str, str] = {}          # how the last try to reach a switch failed
-        self.strangers: dict[str, str] = {}      # by host: why a connection from there was closed that didn't say which switch it is
+        # by host: why a connection from there was closed that didn't say which switch it is
+        self.strangers: dict[str, str] = {}
         self.listener: socket.socket | None = None
         away = [name for name, (_, address) in listed.items() if address is None]
         if listen is None and away:
-            raise Stop(f"{', '.join(away)} {'has' if len(away) == 1 else 'have'} no address in the file of switches, and no --listen is given, where switches without one connect to",
-                       "write where it listens, HOST:PORT, behind its datapath id; or give --listen HOST:PORT")
+            raise Stop(
+                (
+                    f"{', '.join(away)} {'has' if len(away) == 1 else 'have'} no address in the file of switches, and"
+                    " no --listen is given, where switches without one connect to"
+                ),
+                "write where it listens, HOST:PORT, behind its datapath id; or give --listen HOST:PORT",
+            )
         if listen is not None:
             try:
                 listener = socket.create_server(listen, family=socket.AF_INET6 if ":" in listen[0] else socket.AF_INET)
             except OSError as fault:
-                raise Stop(f"can't listen at {address_words(listen)}: {fault.strerror or fault}",
-                           "see whether another run is at work there, or give --listen another port, and the switches too") from None
+                raise Stop(
+                    f"can't listen at {address_words(listen)}: {fault.strerror or fault}",
+                    "see whether another run is at work there, or give --listen another port, and the switches too",
+                ) from None
             if listen[0] in ("", "0.0.0.0", "::"):
-                progress(f"listening at every address of this machine, port {listen[1]}: whoever reaches it can connect; --listen HOST:PORT names one address")
+                progress(
+                    f"listening at every address of this machine, port {listen[1]}: whoever reaches it can connect;"
+                    " --listen HOST:PORT names one address"
+                )
             listener.setblocking(False)
             self.listener = listener
             self.selector.register(listener, selectors.EVENT_READ, None)
@@ -278,7 +328,8 @@ class Switches:
             self.selector.modify(connection.sock, connection.awaited, connection)
 
     def poll(self, seconds: float, quiet: float = 0.005, longest: float = 0.5) -> list[tuple[str, Connection, bytes]]:
-        """Takes what comes until the connections are quiet, after at most `seconds` for the first sign: what was heard, in its order."""
+        """Takes what comes until the connections are quiet, after at most `seconds` for the first sign: what was heard,
+        in its order."""
         self.connect_missing()
         for one in self.connections():
             if not one.name and time.monotonic() - one.since > self.patience:
@@ -333,7 +384,10 @@ class Switches:
     def give_name(self, one: Connection) -> bool:
         name = next((name for name, (datapath, _) in self.listed.items() if datapath == one.datapath), None)
         if one.expected is not None and name != one.expected:
-            raise Stop(f"{one.peer} should be {one.expected} but has the datapath id {one.datapath:016x}", "correct the file of switches")
+            raise Stop(
+                f"{one.peer} should be {one.expected} but has the datapath id {one.datapath:016x}",
+                "correct the file of switches",
+            )
         if name is None:
             self.turn_away(one, f"has the datapath id {one.datapath:016x}, which is none of the file")
             return False
@@ -346,13 +400,22 @@ class Switches:
         return True
 
     def turn_away(self, one: Connection, why: str) -> None:
-        """Closes a connection that is of no use. Of a host that comes again and again for the same reason it is said once."""
+        """Closes a connection that is of no use. Of a host that comes again and again for the same reason it is said
+        once."""
         self.drop(one)
         if one.expected and one.why:
-            raise Stop(f"{one.expected} ({one.peer}) {why}", f"let it speak OpenFlow 1.0 too (Open vSwitch: `ovs-vsctl set bridge {one.expected} protocols=OpenFlow10,OpenFlow13`)")
+            raise Stop(
+                f"{one.expected} ({one.peer}) {why}",
+                (
+                    "let it speak OpenFlow 1.0 too (Open vSwitch: `ovs-vsctl set bridge"
+                    f" {one.expected} protocols=OpenFlow10,OpenFlow13`)"
+                ),
+            )
         known, who = (self.tried, one.expected) if one.expected else (self.strangers, one.peer.rpartition(":")[0])
         if known.get(who) != why:
-            progress(f"the connection with {one.peer}{f' ({one.expected})' if one.expected else ''} {why}; it is closed")
+            progress(
+                f"the connection with {one.peer}{f' ({one.expected})' if one.expected else ''} {why}; it is closed"
+            )
         known[who] = why
 
     def drop(self, one: Connection) -> None:
@@ -362,7 +425,8 @@ class Switches:
             del self.named[one.name]
 
     def why_away(self, name: str) -> str:
-        """How the last try to reach a switch failed, in words behind its name. Of one that connects to us: which connections were closed."""
+        """How the last try to reach a switch failed, in words behind its name. Of one that connects to us: which
+        connections were closed."""
         if name in self.tried:
             return f" ({self.tried[name]})"
         words = "; ".join(f"a connection from {host} {why}" for host, why in self.strangers.items())

@@ -1,4 +1,5 @@
-"""What `planner apply` says to the program and to the switches, and hears from them. Every message that comes is noted before anything follows from it."""
+"""What `planner apply` says to the program and to the switches, and hears from them. Every message that comes is noted
+before anything follows from it."""
 from __future__ import annotations
 
 import argparse
@@ -22,11 +23,13 @@ from planner_tools.switches.pace import AnswerTimes
 from planner_tools.switches.patience import ProgramPatience, SwitchPatience
 from planner_tools.switches.record import Record
 
-# What of a session is fed: all on which `serve` acts, but requests for an echo, which are answered at once. It passes over the rest.
+# What of a session is fed: all on which `serve` acts, but requests for an echo, which are answered at once. It passes
+# over the rest.
 FED = (openflow.HELLO, openflow.ERROR, openflow.ECHO_REQUEST, openflow.BARRIER_REPLY)
 # Reading the files may take so many times the patience with the program.
 READING = 10
-# How long the connection has to have stood on which the messages of a round are sent again, in seconds; with a shorter --wait that long.
+# How long the connection has to have stood on which the messages of a round are sent again, in seconds; with a shorter
+# --wait that long.
 STANDS = 2.0
 
 
@@ -55,7 +58,9 @@ class Follower(Protocol):
 class Conversation:
     """The record, the session of the library that is given its lines, and the switches."""
 
-    def __init__(self, options: argparse.Namespace, listed: Listed, record: Record, times: AnswerTimes, follower: Follower) -> None:
+    def __init__(
+        self, options: argparse.Namespace, listed: Listed, record: Record, times: AnswerTimes, follower: Follower
+    ) -> None:
         self.options, self.listed, self.record, self.times, self.follower = options, listed, record, times, follower
         self.session: planner.Session | None = None      # there is one when `serve` has taken the lines of the record
         self.followed = 0                # how often lines were given to it
@@ -63,7 +68,8 @@ class Conversation:
         self.switches: Switches | None = None            # made when `serve` has accepted the plan
         self.heard: list[Heard] = []     # what came while a program ran
         self.tables = Tables(list(listed))
-        self.owed: dict[str, tuple[bytes, int]] = {}     # by switch: messages of these scripts that aren't answered, and the xid of the barrier request behind them
+        # by switch: messages of these scripts that aren't answered, and the xid of the barrier request behind them
+        self.owed: dict[str, tuple[bytes, int]] = {}
         self.program = ProgramPatience(options.patience)
         self.waiting = SwitchPatience(options.patience)
 
@@ -81,7 +87,8 @@ class Conversation:
     # ---- the program
 
     def ask(self, *words: str) -> tuple[int, str]:
-        """The exit status of a run of the program, and its text. What comes meanwhile is kept, and requests for an echo are answered."""
+        """The exit status of a run of the program, and its text. What comes meanwhile is kept, and requests for an echo
+        are answered."""
         self.program.wait_for(words[0])
         try:
             return beside.run_beside(words, self.keep_listening)
@@ -96,13 +103,16 @@ class Conversation:
             self.heard += self.switches.poll(0.005, quiet=0.0)
 
     def open_session(self) -> None:
-        """Begins `planner serve`, and gives it the lines of the record. What it says of those has been sent, or is said again behind `reopen`."""
+        """Begins `planner serve`, and gives it the lines of the record. What it says of those has been sent, or is said
+        again behind `reopen`."""
         self.record.keep()
         lines = self.record.take_unfollowed()
         self.program.wait_for("serve", READING)
         with contextlib.ExitStack() as opened:
             try:
-                session = planner.Session(*files_of(self.options), patience=math.inf, program=beside.path(), meanwhile=self.keep_listening)
+                session = planner.Session(
+                    *files_of(self.options), patience=math.inf, program=beside.path(), meanwhile=self.keep_listening
+                )
                 opened.callback(session.close)
                 for _ in self.replies(session, lines):
                     pass
@@ -138,7 +148,10 @@ class Conversation:
                 events.tell_events(reply.events)
                 self.send(reply.messages)
                 if reply.line in ("start", "back") and not reply.is_taken:
-                    raise Stop(f"`planner serve` answers `{reply.last}` to `{reply.line}`", "see what the record has; then go on with --resume")
+                    raise Stop(
+                        f"`planner serve` answers `{reply.last}` to `{reply.line}`",
+                        "see what the record has; then go on with --resume",
+                    )
         except (planner.Refused, planner.ServeEnded) as end:
             raise serve_ended(self.options, self.record, end) from None
         self.followed += 1
@@ -154,7 +167,8 @@ class Conversation:
         self.switches = Switches(self.listed, self.options.listen, self.options.patience)
 
     def send(self, messages: Sequence[planner.Message]) -> None:
-        """Sends what `serve` says, to those whose connection is good. The others get it when theirs is, behind `reopen`. HELLO was sent as a connection was made."""
+        """Sends what `serve` says, to those whose connection is good. The others get it when theirs is, behind
+        `reopen`. HELLO was sent as a connection was made."""
         pieces: dict[str, list[bytes]] = {}
         for one in messages:
             if openflow.type_of(one.data) != openflow.HELLO:
@@ -166,7 +180,8 @@ class Conversation:
                 self.times.note_sent(name)
 
     def say_to(self, name: str, data: bytes, barrier: int) -> None:
-        """Sends messages of these scripts that end with a barrier request: they are owed until it is answered, and sent again on a new connection."""
+        """Sends messages of these scripts that end with a barrier request: they are owed until it is answered, and sent
+        again on a new connection."""
         before = self.owed.get(name, (b"", 0))[0]
         self.owed[name] = before + data, barrier
         if name in self.named:
@@ -186,7 +201,9 @@ class Conversation:
         self.follow()
         ends.see_that_it_is_heard()
         self.ask_again()
-        self.waiting.mind(self.awaited(), min(self.options.wait, STANDS) if self.core.begun else 0, self.why_awaited, self.state)
+        self.waiting.mind(
+            self.awaited(), min(self.options.wait, STANDS) if self.core.begun else 0, self.why_awaited, self.state
+        )
 
     def take(self, what: str, connection: Connection, message: bytes) -> None:
         name = connection.name
@@ -239,8 +256,9 @@ class Conversation:
                 self.tables.ask(one)
 
     def let_on(self, connection: Connection) -> None:
-        """A switch has what it must have, so the update goes on on its connection, on which it answered so. Where an older one leaves it unsure what the switch
-        has got, that is a new session, and `serve` says what the switch has to be sent again."""
+        """A switch has what it must have, so the update goes on on its connection, on which it answered so. Where an
+        older one leaves it unsure what the switch has got, that is a new session, and `serve` says what the switch has
+        to be sent again."""
         name = connection.name
         if self.named.get(name) is not connection or not self.stands(name):
             return               # it has connected anew while a program ran, and is asked first
@@ -259,7 +277,10 @@ class Conversation:
 
     def tell_reopened(self, name: str) -> None:
         if self.core.is_running:
-            words = f"{name} has what it must have; its session is opened anew, and what it hasn't answered of {self.round_words()} is sent again"
+            words = (
+                f"{name} has what it must have; its session is opened anew, and what it hasn't answered of"
+                f" {self.round_words()} is sent again"
+            )
             self.record.remark_seldom(name + " again", words)
             progress(words)
 
@@ -278,15 +299,20 @@ class Conversation:
     # ---- how far it is
 
     def must_reopen(self, name: str) -> bool:
-        """Whether what was sent to a switch on its session is perhaps not carried out, and not answered: its next connection is a new session."""
+        """Whether what was sent to a switch on its session is perhaps not carried out, and not answered: its next
+        connection is a new session."""
         return name in self.unsure or name in self.core.owing()
 
     def has_stood(self, connection: Connection) -> bool:
-        """Whether a connection has stood for a while since its switch answered on it. By then the switch has taken up what it takes of an older one."""
-        return connection.heard_at is not None and time.monotonic() - connection.heard_at >= min(self.options.wait, STANDS)
+        """Whether a connection has stood for a while since its switch answered on it. By then the switch has taken up
+        what it takes of an older one."""
+        return connection.heard_at is not None and time.monotonic() - connection.heard_at >= min(
+            self.options.wait, STANDS
+        )
 
     def stands(self, name: str) -> bool:
-        """Whether a switch has a connection, and has answered on it for its table. What it answered on an older one says nothing of the table it has by now."""
+        """Whether a switch has a connection, and has answered on it for its table. What it answered on an older one
+        says nothing of the table it has by now."""
         return name in self.named and self.tables.are_of(self.named[name])
 
     def has_all(self) -> bool:
@@ -295,7 +321,11 @@ class Conversation:
 
     def awaited(self) -> list[str]:
         """The switches for which the update waits: they are away, or owe an answer."""
-        away = {name for name in self.listed if name not in self.named or name not in self.core.open and not self.named[name].kept}
+        away = {
+            name
+            for name in self.listed
+            if name not in self.named or name not in self.core.open and not self.named[name].kept
+        }
         return sorted(away | self.core.owing() | self.tables.missing() | set(self.owed))
 
     def why_awaited(self, name: str) -> str:
@@ -319,7 +349,9 @@ class Conversation:
         core = self.core
         words = f"{core.settled} of {core.rounds} rounds are settled"
         words += f" ({core.carried_out} were carried out and {core.undone} undone)" if core.undone else ""
-        words += f", round {core.number()} is {'being undone' if core.is_back else 'running'}" if core.is_running else ""
+        words += (
+            f", round {core.number()} is {'being undone' if core.is_back else 'running'}" if core.is_running else ""
+        )
         names = self.awaited() if self.switches is not None else []
         return words + (f", no answer yet from {', '.join(names)}" if names else "")
 
@@ -333,11 +365,16 @@ def temporary(word: str, data: bytes) -> Iterator[str]:
             file.flush()
             yield file.name
     except OSError as fault:
-        raise Stop(f"a file in {tempfile.gettempdir()} can't be written: {fault.strerror or fault}", "make room there; then go on with --resume") from None
+        raise Stop(
+            f"a file in {tempfile.gettempdir()} can't be written: {fault.strerror or fault}",
+            "make room there; then go on with --resume",
+        ) from None
 
 
 def write(path: str, text: str) -> None:
     try:
         pathlib.Path(path).write_text(text, encoding="ascii")
     except OSError as fault:
-        raise Stop(f"{path} can't be written: {fault.strerror or fault}", "make room on its disk; then go on with --resume") from None
+        raise Stop(
+            f"{path} can't be written: {fault.strerror or fault}", "make room on its disk; then go on with --resume"
+        ) from None

@@ -36,6 +36,10 @@ def interrupt_words(why: KeyboardInterrupt) -> str:
 
 
 def see_that_it_is_heard() -> None:
-    """It is Stop where the error stream can't be written any more: an update isn't carried out where nobody hears what becomes of it."""
+    """It is Stop where the error stream can't be written any more: an update isn't carried out where nobody hears what
+    becomes of it."""
     if TELLING.fault is not None:
-        raise Stop(f"the error stream is closed, and nobody hears what happens ({TELLING.fault.strerror})", "go on with --resume")
+        raise Stop(
+            f"the error stream is closed, and nobody hears what happens ({TELLING.fault.strerror})",
+            "go on with --resume",
+        )

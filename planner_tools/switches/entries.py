@@ -1,7 +1,8 @@
-"""The entries of flow statistics: which may be passed on to `planner import`, what of them may be made alike, and why the others are refused.
+"""The entries of flow statistics: which may be passed on to `planner import`, what of them may be made alike, and why
+the others are refused.
 
-Two kinds of statistics are read: those of OpenFlow 1.0.0 (section 5.3.5), which `import` reads too, and the extended ones of Open vSwitch
-(NXST_FLOW), which show matches that OpenFlow 1.0 can't say.
+Two kinds of statistics are read: those of OpenFlow 1.0.0 (section 5.3.5), which `import` reads too, and the extended
+ones of Open vSwitch (NXST_FLOW), which show matches that OpenFlow 1.0 can't say.
 """
 from __future__ import annotations
 
@@ -16,14 +17,23 @@ IPV4 = 0x0800
 # A packet of these types may be an IPv4 packet behind a tag.
 TAGGED = (0x8100, 0x88A8)
 UNTAGGED = 0xFFFF
-SPECIAL_PORTS = {0xFFF8: "IN_PORT", 0xFFF9: "TABLE", 0xFFFA: "NORMAL", 0xFFFB: "FLOOD", 0xFFFC: "ALL", 0xFFFD: "CONTROLLER", 0xFFFE: "LOCAL"}
+SPECIAL_PORTS = {
+    0xFFF8: "IN_PORT", 0xFFF9: "TABLE", 0xFFFA: "NORMAL", 0xFFFB: "FLOOD", 0xFFFC: "ALL", 0xFFFD: "CONTROLLER",
+    0xFFFE: "LOCAL",
+}
 ACTIONS = {3: "strip VLAN", 11: "enqueue", 0xFFFF: "vendor action"}
-OTHER_FIELDS = {2: "dl_src", 3: "dl_dst", 5: "nw_proto", 6: "tp_src", 7: "tp_dst", 21: "nw_tos"}     # by their bit of `wildcards`
+# by their bit of `wildcards`
+OTHER_FIELDS = {2: "dl_src", 3: "dl_dst", 5: "nw_proto", 6: "tp_src", 7: "tp_dst", 21: "nw_tos"}
 # The priority of an entry that was added without one.
 DEFAULT_PRIORITY = 32768
-DEFAULT_WORDS = ": 32768 is what `ovs-ofctl add-flow` takes where no priority is given; add it again with one, and then take this one away"
-STANDALONE = ("it is the default entry of a switch in standalone mode, NORMAL: put entries of your own in first, and then take it away alone, by a strict command; "
-              "`planner adopt` does so. (Setting the fail mode empties the table.)")
+DEFAULT_WORDS = (
+    ": 32768 is what `ovs-ofctl add-flow` takes where no priority is given; add it again with one, and then take this"
+    " one away"
+)
+STANDALONE = (
+    "it is the default entry of a switch in standalone mode, NORMAL: put entries of your own in first, and then take it"
+    " away alone, by a strict command; `planner adopt` does so. (Setting the fail mode empties the table.)"
+)
 TO_CONTROLLER = bytes.fromhex("00000008fffd")
 TO_NORMAL = bytes.fromhex("00000008fffa")
 
@@ -80,7 +90,8 @@ class Entry:
         return entry_words(self.test(), f"type {self.type:04x}" if self.is_exact(4) else "any type", self.actions)
 
     def without_effect(self) -> str | None:
-        """Why no IPv4 packet of the model fares otherwise without the entry, or None. An entry without any wildcard comes before all others."""
+        """Why no IPv4 packet of the model fares otherwise without the entry, or None. An entry without any wildcard
+        comes before all others."""
         if self.table == 0 and self.is_exact(4) and self.type not in (IPV4, *TAGGED):
             return "of other types"
         if self.table == 0 and self.wildcards & 0x3FFFFF and is_miss(self.priority, self.actions):
@@ -107,13 +118,19 @@ class Entry:
             return f"its priority isn't 1 to 16383{DEFAULT_WORDS if self.priority == DEFAULT_PRIORITY else ''}"
         if self.time_words():
             return self.time_words()
-        if self.actions and not (len(self.actions) == 8 and self.actions[:4] == bytes.fromhex("00000008") and 1 <= int.from_bytes(self.actions[4:6], "big") <= 65279):
+        if self.actions and not (
+            len(self.actions) == 8
+            and self.actions[:4] == bytes.fromhex("00000008")
+            and 1 <= int.from_bytes(self.actions[4:6], "big") <= 65279
+        ):
             return "its actions are neither none nor one output to a port"
         return None
 
     def oddity(self) -> str | None:
         """What of its place and its match no rule of a plan can say, in words, or None."""
-        others = [name for bit, name in OTHER_FIELDS.items() if self.is_exact(bit)] + (["nw_src"] if self.wildcards >> 8 & 63 < 32 else [])
+        others = [name for bit, name in OTHER_FIELDS.items() if self.is_exact(bit)] + (
+            ["nw_src"] if self.wildcards >> 8 & 63 < 32 else []
+        )
         if self.table != 0:
             return f"it stands in table {self.table}"
         if not self.is_exact(4):
@@ -156,7 +173,8 @@ def action_words(actions: bytes) -> Iterator[str]:
 # Headers of the fields of an extended match that an entry of OpenFlow 1.0 has too.
 SOURCE_MASKED = 0x0F08
 IN_PORT, TYPE, TAG, TAG_MASKED, DESTINATION, DESTINATION_MASKED = 0x002, 0x602, 0x802, 0x904, 0x1004, 0x1108
-# Those that a configuration can't say, but OpenFlow 1.0 can: the other statistics show them truly, and they are refused there.
+# Those that a configuration can't say, but OpenFlow 1.0 can: the other statistics show them truly, and they are refused
+# there.
 SHOWN = {0x206, 0x406, 0xA01, 0xC01, 0xE04, 0x1202, 0x1402, 0x1602, 0x1802, 0x1A01, 0x1C01}
 PREFIX_MASKS = {0xFFFFFFFF << n & 0xFFFFFFFF for n in range(33)}
 
@@ -197,7 +215,13 @@ class ExtendedEntry:
             self.base, self.length = number, 32
         elif header == DESTINATION_MASKED and number & 0xFFFFFFFF in PREFIX_MASKS:
             self.base, self.length = number >> 32, (number & 0xFFFFFFFF).bit_count()
-        elif header in SHOWN or header == TAG and number & 0x1000 or header == SOURCE_MASKED and number & 0xFFFFFFFF in PREFIX_MASKS:     # a tag has a tag priority
+        elif (
+            header in SHOWN
+            or header == TAG
+            and number & 0x1000
+            or header == SOURCE_MASKED
+            and number & 0xFFFFFFFF in PREFIX_MASKS
+        ):  # a tag has a tag priority
             self.others.append(f"{field_name(header)} {value.hex()}")
         else:
             self.widened.append(f"{field_name(header)} {value.hex()}")
@@ -215,7 +239,9 @@ class ExtendedEntry:
         if self.widened:
             return f"it tests {', '.join(self.widened)}, which OpenFlow 1.0 can't say"
         if self.type != IPV4:
-            return "it is for packets of any type" if self.type is None else f"it is for packets of type {self.type:04x}"
+            return (
+                "it is for packets of any type" if self.type is None else f"it is for packets of type {self.type:04x}"
+            )
         return f"it tests {', '.join(self.others)}" if self.others else None
 
     def time_words(self) -> str | None:
@@ -228,7 +254,10 @@ class ExtendedEntry:
 def field_name(header: int) -> str:
     """A field of an extended match by its Open vSwitch name, as far as it may be met in ordinary tables."""
     vendor, field = header >> 16, header >> 9 & 127
-    names = {(0, 1): "dl_dst", (0, 2): "dl_src", (0, 5): "nw_tos", (0, 6): "nw_proto", (0, 4): "vlan_tci", (0, 7): "nw_src", (0, 8): "nw_dst", (1, 16): "tun_id", (1, 26): "ip_frag", (1, 28): "nw_ecn", (1, 29): "nw_ttl", (1, 33): "pkt_mark",
-             (1, 105): "ct_state"}
+    names = {
+        (0, 1): "dl_dst", (0, 2): "dl_src", (0, 5): "nw_tos", (0, 6): "nw_proto", (0, 4): "vlan_tci", (0, 7): "nw_src",
+        (0, 8): "nw_dst", (1, 16): "tun_id", (1, 26): "ip_frag", (1, 28): "nw_ecn", (1, 29): "nw_ttl",
+        (1, 33): "pkt_mark", (1, 105): "ct_state",
+    }
     name = f"reg{field}" if vendor == 1 and field < 16 else names.get((vendor, field), f"field {vendor:04x}:{field}")
     return name + (" with a mask" if header >> 8 & 1 else "")

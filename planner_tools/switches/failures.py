@@ -8,9 +8,11 @@ from planner_tools.switches.connections import Stop
 from planner_tools.switches.record import Record
 
 # What to do after an error of a switch, by its type and code; then the update is taken up.
-AFTER_ERROR = {(3, 0): "make room in its table (entries for other traffic; the capacity in the topology has to leave them room)",
-               (3, 2): "let this controller change its table",
-               (1, 5): "let this controller change its table: has another one made itself its master?"}
+AFTER_ERROR = {
+    (3, 0): "make room in its table (entries for other traffic; the capacity in the topology has to leave them room)",
+    (3, 2): "let this controller change its table",
+    (1, 5): "let this controller change its table: has another one made itself its master?",
+}
 
 
 def files_of(options: argparse.Namespace) -> list[str]:
@@ -44,5 +46,10 @@ def session_failed(record: Record, core: Core, name: str, cause: str) -> Stop:
         then = AFTER_ERROR.get((kind, code), f"see why {name} can't do that")
         change = core.sent.get(name, {}).get(openflow.xid_of(error) if error else 0)
         words += f"; it is about: {openflow.change_words(change)}" if change else ""
-    return Stop(f"the session with {name} failed: {cause}{words}",
-                f"{then}; then go on with --resume: what {name} hasn't answered of the running round is sent again, on a new session")
+    return Stop(
+        f"the session with {name} failed: {cause}{words}",
+        (
+            f"{then}; then go on with --resume: what {name} hasn't answered of the running round is sent again, on a"
+            " new session"
+        ),
+    )

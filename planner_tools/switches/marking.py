@@ -1,4 +1,5 @@
-"""The marks on the switches while an update is carried out: its own, which it puts and takes away, and those of others."""
+"""The marks on the switches while an update is carried out: its own, which it puts and takes away, and those of
+others."""
 from __future__ import annotations
 
 import argparse
@@ -18,7 +19,8 @@ class Marking:
         self.options, self.conversation, self.record = options, conversation, conversation.record
         self.mark = Mark(self.record.token, self.record.begun)
         self.is_marked = False           # whether each switch has, or should have, the mark
-        self.foreign: dict[str, list[Mark]] = {}         # by switch: the marks of other updates that were seen when all were read last
+        # by switch: the marks of other updates that were seen when all were read last
+        self.foreign: dict[str, list[Mark]] = {}
         self.taken_away: set[tuple[str, Mark]] = set()   # those that were taken away, each with its switch
 
     def put(self) -> None:
@@ -53,26 +55,39 @@ class Marking:
     def was_refused(self, name: str, xid: int, words: str) -> None:
         """A switch refuses a message: where it is the mark, it is Stop."""
         if xid == MARK_XID and self.is_marked:
-            raise Stop(f"{name} refuses the mark of the update: {words}", "make room for one entry in its table; or put no mark there, by --no-mark: "
-                       "then another controller isn't told of this update")
+            raise Stop(
+                f"{name} refuses the mark of the update: {words}",
+                (
+                    "make room for one entry in its table; or put no mark there, by --no-mark: "
+                    "then another controller isn't told of this update"
+                ),
+            )
 
     # ---- the marks of others
 
     def mind_others(self, name: str, marks: Sequence[Mark]) -> None:
-        """Takes the marks that a switch has. Where another update has put its mark there it is Stop, or by --take-over it is taken away, once it is known that
-        the update can go on."""
+        """Takes the marks that a switch has. Where another update has put its mark there it is Stop, or by --take-over
+        it is taken away, once it is known that the update can go on."""
         others = [mark for mark in marks if mark != self.mark]
         if not others or self.options.no_mark:
             return
         if not self.options.take_over or any((name, mark) in self.taken_away for mark in others):
             record = under_way.record_near(self.options.input, others)
-            raise Stop(f"another update is at work: {name} has its mark, {'; '.join(map(str, others))}",
-                       "wait for its end, then go on with --resume; where nothing is at work with it any more, --resume --take-over takes its mark away"
-                       + (f"; its record is {record}: with that one --resume carries it on, and --back turns it back" if record else ""))
+            raise Stop(
+                f"another update is at work: {name} has its mark, {'; '.join(map(str, others))}",
+                "wait for its end, then go on with --resume; where nothing is at work with it any more, --resume"
+                " --take-over takes its mark away"
+                + (
+                    f"; its record is {record}: with that one --resume carries it on, and --back turns it back"
+                    if record
+                    else ""
+                ),
+            )
         self.foreign[name] = others
 
     def take_over(self) -> None:
-        """Takes away the marks of other updates, by --take-over. What they did until then is found when the tables are read again."""
+        """Takes away the marks of other updates, by --take-over. What they did until then is found when the tables are
+        read again."""
         for name, marks in self.foreign.items():
             for mark in marks:
                 self.taken_away.add((name, mark))
@@ -84,7 +99,11 @@ class Marking:
     def foreign_words(self) -> str:
         """That the marks of other updates stay where this one can't go on."""
         marks = sorted({str(mark) for those in self.foreign.values() for mark in those})
-        return f". The mark of the update {'; '.join(marks)} stays: this one can't go on from what that one has made" if marks else ""
+        return (
+            f". The mark of the update {'; '.join(marks)} stays: this one can't go on from what that one has made"
+            if marks
+            else ""
+        )
 
     def foreign_record(self) -> str | None:
         """The record of an update whose mark was seen, near this one's; or None."""

@@ -1,9 +1,11 @@
-"""The mark of an update on a switch: an entry that no IP packet can match, by which another controller is told that an update is at work.
+"""The mark of an update on a switch: an entry that no IP packet can match, by which another controller is told that an
+update is at work.
 
-It is an entry of table 0 for packets of the type 88B5, which is for local experiments and carries no IP, from an address that stands for the update,
-without actions. Its cookie says when the update was begun. Open vSwitch keeps and shows all of it, whoever asks. An update puts its mark on every
-switch before its first round, and then reads the tables: whoever does so too puts theirs on before they read, so one at least sees the other. It is
-taken away when the update is over.
+It is an entry of table 0 for packets of the type 88B5, which is for local experiments and carries no IP, from an
+address that stands for the update, without actions. Its cookie says when the update was begun. Open vSwitch keeps and
+shows all of it, whoever asks. An update puts its mark on every switch before its first round, and then reads the
+tables: whoever does so too puts theirs on before they read, so one at least sees the other. It is taken away when the
+update is over.
 
 These are the only messages that are made here and change a table.
 """
@@ -23,7 +25,8 @@ MARK_XID = OWN + 0x10
 MARK_BARRIER = OWN + 0x11
 TYPE = 0x88B5
 PRIORITY = 1
-# The upper half of the cookie of a mark: "plan". The lower one is the second, of Unix time, at which the update was begun.
+# The upper half of the cookie of a mark: "plan". The lower one is the second, of Unix time, at which the update was
+# begun.
 COOKIE = 0x706C616E << 32
 # Every field may have any value but the source address and the type.
 WILDCARDS = 0x003FFFFF & ~(1 << 2) & ~(1 << 4)
@@ -39,8 +42,14 @@ class Mark:
     @staticmethod
     def of(entry: Entry) -> Mark | None:
         """The mark that an entry of statistics of OpenFlow 1.0 is, or None."""
-        is_mark = (entry.table == 0 and entry.is_exact(4) and entry.is_exact(2) and entry.type == TYPE and entry.priority == PRIORITY
-                   and entry.cookie >> 32 == COOKIE >> 32)
+        is_mark = (
+            entry.table == 0
+            and entry.is_exact(4)
+            and entry.is_exact(2)
+            and entry.type == TYPE
+            and entry.priority == PRIORITY
+            and entry.cookie >> 32 == COOKIE >> 32
+        )
         return Mark(entry.source, entry.cookie & 0xFFFFFFFF) if is_mark else None
 
     def __eq__(self, other: object) -> bool:
@@ -65,5 +74,9 @@ class Mark:
 
     def message(self, command: int) -> bytes:
         match = struct.pack("!IH6s6xHBxH16x", WILDCARDS, 0, self.token, 0, 0, TYPE)
-        body = match + struct.pack("!QHHHHIHH", COOKIE | self.begun & 0xFFFFFFFF, command, 0, 0, PRIORITY, 0xFFFFFFFF, 0xFFFF, 0)
-        return openflow.message(openflow.FLOW_MOD, MARK_XID, body) + openflow.message(openflow.BARRIER_REQUEST, MARK_BARRIER)
+        body = match + struct.pack(
+            "!QHHHHIHH", COOKIE | self.begun & 0xFFFFFFFF, command, 0, 0, PRIORITY, 0xFFFFFFFF, 0xFFFF, 0
+        )
+        return openflow.message(openflow.FLOW_MOD, MARK_XID, body) + openflow.message(
+            openflow.BARRIER_REQUEST, MARK_BARRIER
+        )

@@ -1,5 +1,5 @@
-"""The little of OpenFlow 1.0.0 (section 5) that these scripts need: where messages end, their types, the words for errors. No message that
-changes a table for an IP packet is made here."""
+"""The little of OpenFlow 1.0.0 (section 5) that these scripts need: where messages end, their types, the words for
+errors. No message that changes a table for an IP packet is made here."""
 from __future__ import annotations
 
 import struct
@@ -10,11 +10,19 @@ HELLO_BYTES = bytes.fromhex("0100000800000000")
 VERSIONS = {1: "1.0", 2: "1.1", 3: "1.2", 4: "1.3", 5: "1.4", 6: "1.5"}
 
 # Section 5.4.4: the types of errors, and their codes as far as flow messages and questions can meet them.
-ERROR_TYPES = ["hello failed", "bad request", "bad action", "flow message failed", "port message failed", "queue operation failed"]
+ERROR_TYPES = [
+    "hello failed", "bad request", "bad action", "flow message failed", "port message failed", "queue operation failed",
+]
 ERROR_CODES = [
     ["incompatible", "permission error"],
-    ["bad version", "bad type", "bad statistics type", "bad vendor", "bad subtype", "permission error", "bad length", "buffer empty", "buffer unknown"],
-    ["bad type", "bad length", "bad vendor", "bad vendor type", "bad out port", "bad argument", "permission error", "too many", "bad queue"],
+    [
+        "bad version", "bad type", "bad statistics type", "bad vendor", "bad subtype", "permission error", "bad length",
+        "buffer empty", "buffer unknown",
+    ],
+    [
+        "bad type", "bad length", "bad vendor", "bad vendor type", "bad out port", "bad argument", "permission error",
+        "too many", "bad queue",
+    ],
     ["all tables full", "overlap", "permission error", "bad emergency timeout", "bad command", "unsupported"],
 ]
 
@@ -22,7 +30,10 @@ ERROR_CODES = [
 def error_words(kind: int, code: int) -> str:
     """The standard's words for an error, as far as they are known."""
     codes = ERROR_CODES[kind] if kind < len(ERROR_CODES) else []
-    return f"{ERROR_TYPES[kind] if kind < len(ERROR_TYPES) else 'unknown type'}: {codes[code] if code < len(codes) else 'unknown code'}"
+    return (
+        f"{ERROR_TYPES[kind] if kind < len(ERROR_TYPES) else 'unknown type'}:"
+        f" {codes[code] if code < len(codes) else 'unknown code'}"
+    )
 
 
 def message(kind: int, xid: int, body: bytes = b"") -> bytes:
@@ -76,7 +87,8 @@ def other_version(piece: bytes) -> str | None:
 
 
 def offered_versions(hello: bytes) -> list[int]:
-    """The versions that the bitmap of a HELLO lists (OpenFlow 1.3.1, section 7.5.1), ascending; none where it has no bitmap."""
+    """The versions that the bitmap of a HELLO lists (OpenFlow 1.3.1, section 7.5.1), ascending; none where it has no
+    bitmap."""
     at = 8
     while at + 8 <= len(hello):
         kind, length = struct.unpack("!HH", hello[at:at + 4])
@@ -89,9 +101,14 @@ def offered_versions(hello: bytes) -> list[int]:
 def change_words(piece: bytes) -> str:
     """What a flow message of `planner serve` does, in words."""
     wildcards, in_port = struct.unpack("!IH", piece[8:14])
-    vlan, command, priority = int.from_bytes(piece[26:28], "big"), int.from_bytes(piece[56:58], "big"), int.from_bytes(piece[62:64], "big")
+    vlan, command, priority = (
+        int.from_bytes(piece[26:28], "big"), int.from_bytes(piece[56:58], "big"), int.from_bytes(piece[62:64], "big"),
+    )
     length = 32 - min(32, wildcards >> 14 & 63)
-    words = f"{ {0: 'insert', 2: 'replace', 4: 'delete'}.get(command, 'change')} priority {priority} {'.'.join(map(str, piece[40:44]))}/{length}"
+    words = (
+        f"{ {0: 'insert', 2: 'replace', 4: 'delete'}.get(command, 'change')} priority"
+        f" {priority} {'.'.join(map(str, piece[40:44]))}/{length}"
+    )
     words += f" in_port {in_port}" if not wildcards & 1 else ""
     words += "" if wildcards & 2 else " untagged" if vlan == 0xFFFF else f" VLAN {vlan}"
     return words

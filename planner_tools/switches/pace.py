@@ -20,7 +20,8 @@ class AnswerTimes:
 
     def __init__(self) -> None:
         self.sent_at: dict[str, float] = {}      # by switch: when it was sent its last barrier request of a round
-        self.slowest = (0.0, "")                 # how long the slowest answer to one took since the last round was told, and whose
+        # how long the slowest answer to one took since the last round was told, and whose
+        self.slowest = (0.0, "")
 
     def note_sent(self, name: str) -> None:
         self.sent_at[name] = time.monotonic()
@@ -54,8 +55,13 @@ class Pace:
         self.settled_at, self.asked = time.monotonic(), False
 
     def may_begin(self, next_round: str) -> bool:
-        """Whether the packets that entered before have left, by the operator's rule, so that the next round may begin, which these words name."""
-        return self.operator_says_so(next_round) if self.options.ask else time.monotonic() - self.settled_at >= self.options.wait
+        """Whether the packets that entered before have left, by the operator's rule, so that the next round may begin,
+        which these words name."""
+        return (
+            self.operator_says_so(next_round)
+            if self.options.ask
+            else time.monotonic() - self.settled_at >= self.options.wait
+        )
 
     def operator_says_so(self, next_round: str) -> bool:
         if not self.asked:
@@ -69,7 +75,9 @@ class Pace:
 
     def waited(self) -> str:
         """How long was waited before the round that begins now, for the record."""
-        words = f"after a wait of {time.monotonic() - self.settled_at:.3f} s{', as the operator said' if self.options.ask else ''}{self.slow_words}"
+        seconds = time.monotonic() - self.settled_at
+        by_whom = ", as the operator said" if self.options.ask else ""
+        words = f"after a wait of {seconds:.3f} s{by_whom}{self.slow_words}"
         self.slow_words = ""
         return words
 
@@ -90,22 +98,34 @@ class Pace:
         each = sum(last) / len(last) if last else least
         time_left = "" if self.options.ask or not left else f"; {left} left, some {duration(each * left)}"
         is_undone = core.is_back and not core.is_running
-        progress(f"round {core.settled + is_undone} of {core.rounds} is {'undone' if is_undone else 'settled'}{seconds}{time_left}")
+        progress(
+            f"round {core.settled + is_undone} of {core.rounds} is"
+            f" {'undone' if is_undone else 'settled'}{seconds}{time_left}"
+        )
         self.tell_slow_answers()
 
     def tell_slow_answers(self) -> None:
-        """Says that switches took long to answer, beside the wait: as long as an answer packets may be under way too. It is said again where that grows."""
+        """Says that switches took long to answer, beside the wait: as long as an answer packets may be under way too.
+        It is said again where that grows."""
         seconds, name = self.times.take_slowest()
         if self.options.ask or seconds <= self.options.wait / 2 or seconds <= 1.25 * self.slowest_told:
             return
         self.slowest_told = seconds
         share = "the" if seconds > self.options.wait else "half of the"
-        words = (f"{name} took {seconds:.{1 if seconds >= 1 else 3}f} s to answer, more than {share} wait of {self.options.wait:g} s: "
-                 "where switches are that busy packets may be under way for longer than it too, and be broken by the next round; "
-                 f"--wait {math.ceil(2 * seconds)} would do")
+        words = (
+            f"{name} took {seconds:.{1 if seconds >= 1 else 3}f} s to answer, more than {share} wait of"
+            f" {self.options.wait:g} s: where switches are that busy packets may be under way for longer than it too,"
+            f" and be broken by the next round; --wait {math.ceil(2 * seconds)} would do"
+        )
         self.slow_words = f"; {words}"
         progress(words)
 
 
 def duration(seconds: float) -> str:
-    return f"{seconds:.0f} s" if seconds < 120 else f"{seconds / 60:.0f} min" if seconds < 7200 else f"{seconds / 3600:.1f} h"
+    return (
+        f"{seconds:.0f} s"
+        if seconds < 120
+        else f"{seconds / 60:.0f} min"
+        if seconds < 7200
+        else f"{seconds / 3600:.1f} h"
+    )

@@ -1,8 +1,9 @@
-"""Updates under way: whose marks and entries are on the switches, where the record of such an update is and how far it came; and where the record is lost,
-which round of its plan the tables stand in, and a record made anew from that.
+"""Updates under way: whose marks and entries are on the switches, where the record of such an update is and how far it
+came; and where the record is lost, which round of its plan the tables stand in, and a record made anew from that.
 
-A record that is made anew has the lines by which `planner serve` comes to that round: each switch's HELLO, the rounds that were started, and the answers
-that each switch gave by then. What is sent from there on follows from these lines, as from any record.
+A record that is made anew has the lines by which `planner serve` comes to that round: each switch's HELLO, the rounds
+that were started, and the answers that each switch gave by then. What is sent from there on follows from these lines,
+as from any record.
 """
 from __future__ import annotations
 
@@ -48,10 +49,22 @@ class Head:
         self.sums = found[3].split(" ")[1:]
 
     def files(self) -> list[str] | None:
-        """Its five files, as they were when it was begun, from the record's folder or the one above; or None where one isn't there."""
+        """Its five files, as they were when it was begun, from the record's folder or the one above; or None where one
+        isn't there."""
         folder = os.path.dirname(self.path)
-        found = [next((path for path in (os.path.join(folder, f"{name}.json"), os.path.join(os.path.dirname(folder), f"{name}.json")) if sum_of(path) == total), "")
-                 for name, total in zip(FILES, self.sums)]
+        found = [
+            next(
+                (
+                    path
+                    for path in (
+                        os.path.join(folder, f"{name}.json"), os.path.join(os.path.dirname(folder), f"{name}.json"),
+                    )
+                    if sum_of(path) == total
+                ),
+                "",
+            )
+            for name, total in zip(FILES, self.sums)
+        ]
         return found if len(found) == len(FILES) and all(found) else None
 
     def is_at_work(self) -> bool:
@@ -104,8 +117,12 @@ def head_of(path: str) -> Head | None:
 
 
 def heads_in(folder: str) -> list[Head]:
-    """The heads of the records that `planner update` left in a folder, and of those that stand in it, the newest first."""
-    paths = [*glob.glob(os.path.join(glob.escape(folder), "update-*", "*")), *glob.glob(os.path.join(glob.escape(folder), "*"))]
+    """The heads of the records that `planner update` left in a folder, and of those that stand in it, the newest
+    first."""
+    paths = [
+        *glob.glob(os.path.join(glob.escape(folder), "update-*", "*")),
+        *glob.glob(os.path.join(glob.escape(folder), "*")),
+    ]
     heads = [head_of(path) for path in paths if os.path.isfile(path)]
     return sorted((one for one in heads if one is not None), key=lambda one: -one.begun)
 
@@ -124,7 +141,8 @@ def record_near(path: str, marks: Sequence[Mark]) -> str | None:
 # ---- which round the tables stand in
 
 class Standing:
-    """Where tables stand in a plan: so many rounds are settled, whether the next one is half made, and the entries that are as in no such state."""
+    """Where tables stand in a plan: so many rounds are settled, whether the next one is half made, and the entries that
+    are as in no such state."""
 
     def __init__(self, rounds: int, settled: int, is_running: bool, wrong: set[tuple[str, Any]]) -> None:
         self.rounds, self.settled, self.is_running, self.wrong = rounds, settled, is_running, wrong
@@ -135,7 +153,8 @@ class Standing:
 
 
 def tables_of(tables: collect.Tables) -> dict[tuple[str, Any], str]:
-    """The entries that the switches have: what each does, by the switch and its test; of one that no rule can say its own words."""
+    """The entries that the switches have: what each does, by the switch and its test; of one that no rule can say its
+    own words."""
     found = {}
     for name, answers in tables.answers.items():
         for entry in answers.shown():
@@ -149,13 +168,17 @@ def states(rules: Sequence[dict[str, Any]], plan: dict[str, Any]) -> Iterator[tu
     state = {(rule["switch"], rule_key(rule)): rule_action(rule) for rule in rules}
     for changes in [*plan["rounds"], []]:
         after: dict[Any, str | None]
-        after = {(rule["switch"], rule_key(rule)): None if do == "delete" else rule_action(rule) for do, rule in ((do, plan["rules"][at]) for do, at in changes)}
+        after = {
+            (rule["switch"], rule_key(rule)): None if do == "delete" else rule_action(rule)
+            for do, rule in ((do, plan["rules"][at]) for do, at in changes)
+        }
         yield state, after
         state = {key: it for key, it in {**state, **after}.items() if it is not None}
 
 
 def standing(rules: Sequence[dict[str, Any]], plan: dict[str, Any], there: dict[tuple[str, Any], str]) -> Standing:
-    """Where tables stand in a plan. Where they are those of no state of it, it is the state to which the fewest entries are wanting."""
+    """Where tables stand in a plan. Where they are those of no state of it, it is the state to which the fewest entries
+    are wanting."""
     rounds = len(plan["rounds"])
     best: Standing | None = None
     for number, (state, after) in enumerate(states(rules, plan)):
@@ -173,7 +196,9 @@ def standing_of(files: Sequence[str], tables: collect.Tables) -> Standing | None
     topology, old, _, _, plan = files
     status, text = answer_for(REFUSALS, "upgrade", topology, plan)
     try:
-        return standing(plain(read_json(old).root)["rules"], json.loads(text), tables_of(tables)) if status == 0 else None
+        return (
+            standing(plain(read_json(old).root)["rules"], json.loads(text), tables_of(tables)) if status == 0 else None
+        )
     except (NotJson, OSError, KeyError, ValueError, TypeError):
         return None
 
@@ -181,7 +206,10 @@ def standing_of(files: Sequence[str], tables: collect.Tables) -> Standing | None
 def recover(options: argparse.Namespace) -> None:
     """Makes the record of an update anew, from what the switches have."""
     if os.path.exists(options.input):
-        raise Stop(f"{options.input} is there already", "go on with it by --resume or --back, or give the record that is made anew another name")
+        raise Stop(
+            f"{options.input} is there already",
+            "go on with it by --resume or --back, or give the record that is made anew another name",
+        )
     files = [options.topology, options.old, options.new, options.policy, options.plan]
     held = lock(options.switches)
     try:
@@ -189,11 +217,22 @@ def recover(options: argparse.Namespace) -> None:
     finally:
         held.close()
     if found is None:
-        raise Stop(f"{options.old} or {options.plan} can't be read", "give the files of the update: `planner check` says more of them")
+        raise Stop(
+            f"{options.old} or {options.plan} can't be read",
+            "give the files of the update: `planner check` says more of them",
+        )
     if found.wrong and not options.repair:
         names = ", ".join(sorted({name for name, _ in found.wrong}))
-        raise Stop(f"the tables of the switches are those of no round of {options.plan}: they come nearest to where {found}, and {len(found.wrong)} entries of {names} are otherwise",
-                   "see that these are the files of the update; then --recover --repair goes on from there, and puts those entries right")
+        raise Stop(
+            (
+                f"the tables of the switches are those of no round of {options.plan}: they come nearest to where"
+                f" {found}, and {len(found.wrong)} entries of {names} are otherwise"
+            ),
+            (
+                "see that these are the files of the update; then --recover --repair goes on from there, and puts those"
+                " entries right"
+            ),
+        )
     write_record(options.input, files, found)
     progress(f"the record {options.input} is made anew from what the switches have: {found}")
 
@@ -207,7 +246,10 @@ def write_record(path: str, files: Sequence[str], found: Standing) -> None:
             core = session.core
     except (planner.Refused, planner.ServeEnded) as end:
         record.remove()
-        raise Stop(f"`planner serve` ended with status {end.status}{f' and said: {end.text.strip()}' if end.text else ''}", "give the files of the update") from None
+        raise Stop(
+            f"`planner serve` ended with status {end.status}{f' and said: {end.text.strip()}' if end.text else ''}",
+            "give the files of the update",
+        ) from None
     finally:
         record.file.close()
     if (core.settled, core.is_running) != (found.settled, found.is_running):
@@ -247,8 +289,8 @@ class Found:
 
 
 def find(folder: str, tables: collect.Tables, command: Callable[..., Any]) -> Found | None:
-    """The update under way of which the tables have marks, or entries of a two-phase plan; or None. Its record is looked for in a folder. `command` makes
-    the line of `planner apply` for five files and a record."""
+    """The update under way of which the tables have marks, or entries of a two-phase plan; or None. Its record is
+    looked for in a folder. `command` makes the line of `planner apply` for five files and a record."""
     marks = tables.marks()
     if not marks and not tables.has_tagging_entries():
         return None
@@ -262,7 +304,9 @@ def find(folder: str, tables: collect.Tables, command: Callable[..., Any]) -> Fo
 
 def core_words(core: Core) -> str:
     words = f"{core.settled} of {core.rounds} rounds are settled"
-    return words + (f", and round {core.number()} is {'being undone' if core.is_back else 'running'}" if core.is_running else "")
+    return words + (
+        f", and round {core.number()} is {'being undone' if core.is_back else 'running'}" if core.is_running else ""
+    )
 
 
 def of_record(what: str, head: Head, command: Callable[..., Any]) -> Found:
@@ -270,18 +314,39 @@ def of_record(what: str, head: Head, command: Callable[..., Any]) -> Found:
     what, files = f"{what}; its record is {head.path}", head.files()
     is_at_work = head.is_at_work()
     if files is None:
-        return Found(what, f"go on with that record by `planner apply .. {head.path} --resume`, or turn it back by --back, with the files as they were when it was begun: "
-                     "one of them isn't there any more, or was changed")
+        return Found(
+            what,
+            (
+                f"go on with that record by `planner apply .. {head.path} --resume`, or turn it back by --back, with"
+                " the files as they were when it was begun: one of them isn't there any more, or was changed"
+            ),
+        )
     core = None if is_at_work else head.core(files)
     what += ", and a run is at work with it" if is_at_work else f": {core_words(core)}" if core else ""
     lines = f"`{command(files, head.path)} --resume` carries it on, `{command(files, head.path)} --back` turns it back"
-    return Found(what, f"wait for the end of that run, or end it there by Ctrl-C; then {lines}" if is_at_work else lines)
+    return Found(
+        what, f"wait for the end of that run, or end it there by Ctrl-C; then {lines}" if is_at_work else lines
+    )
 
 
 def plans_in(folder: str, tables: collect.Tables) -> Iterator[tuple[str, list[str], Standing]]:
-    """Five files of an update in a folder, in whose plan the tables stand between the beginning and the end, or at one of them; with where they stand."""
-    for at in sorted(glob.glob(os.path.join(glob.escape(folder), "update-*")), key=lambda one: -int(one.rpartition("-")[2]) if one.rpartition("-")[2].isdigit() else 0):
-        files = [next((path for path in (os.path.join(at, f"{name}.json"), os.path.join(folder, f"{name}.json")) if os.path.isfile(path)), "") for name in FILES]
+    """Five files of an update in a folder, in whose plan the tables stand between the beginning and the end, or at one
+    of them; with where they stand."""
+    for at in sorted(
+        glob.glob(os.path.join(glob.escape(folder), "update-*")),
+        key=lambda one: -int(one.rpartition("-")[2]) if one.rpartition("-")[2].isdigit() else 0,
+    ):
+        files = [
+            next(
+                (
+                    path
+                    for path in (os.path.join(at, f"{name}.json"), os.path.join(folder, f"{name}.json"))
+                    if os.path.isfile(path)
+                ),
+                "",
+            )
+            for name in FILES
+        ]
         where = standing_of(files, tables) if all(files) else None
         if where is not None and not where.wrong:
             yield at, files, where
@@ -291,12 +356,22 @@ def of_lost_record(what: str, mark: Mark, folder: str, tables: collect.Tables, c
     """What there is to say of an update whose record isn't there."""
     for at, files, where in plans_in(folder, tables):
         line = command(files, free_name(at))
-        return Found(f"{what}. Its record isn't in {folder}; by the tables of the switches {where}, of {files[4]}",
-                     f"see that nothing is at work with it any more; then `{line} --recover` carries it on from there, `{line} --recover --back` turns it back")
-    return Found(f"{what}. Its record isn't in {folder}, nor a plan whose tables these are",
-                 f"look for its record, a file whose second line begins with `# update {mark.token.hex()}`, where it was begun: `planner apply .. RECORD --resume` carries it on, and --back "
-                 "turns it back; with its plan alone --recover makes the record anew. Where both are lost, `planner apply` with --take-over --repair gives the switches the tables of an OLD, "
-                 "entry by entry: packets may be dropped meanwhile")
+        return Found(
+            f"{what}. Its record isn't in {folder}; by the tables of the switches {where}, of {files[4]}",
+            (
+                f"see that nothing is at work with it any more; then `{line} --recover` carries it on from there,"
+                f" `{line} --recover --back` turns it back"
+            ),
+        )
+    return Found(
+        f"{what}. Its record isn't in {folder}, nor a plan whose tables these are",
+        (
+            f"look for its record, a file whose second line begins with `# update {mark.token.hex()}`, where it was"
+            " begun: `planner apply .. RECORD --resume` carries it on, and --back turns it back; with its plan alone"
+            " --recover makes the record anew. Where both are lost, `planner apply` with --take-over --repair gives"
+            " the switches the tables of an OLD, entry by entry: packets may be dropped meanwhile"
+        ),
+    )
 
 
 def of_entries(folder: str, heads: Sequence[Head], tables: collect.Tables, command: Callable[..., Any]) -> Found | None:
@@ -309,7 +384,10 @@ def of_entries(folder: str, heads: Sequence[Head], tables: collect.Tables, comma
         if head is not None:
             return of_record(what, head, command)
         line = command(files, free_name(at))
-        return Found(f"{what}. Its record isn't in {folder}", f"`{line} --recover` carries it on from there, `{line} --recover --back` turns it back")
+        return Found(
+            f"{what}. Its record isn't in {folder}",
+            f"`{line} --recover` carries it on from there, `{line} --recover --back` turns it back",
+        )
     return None
 
 

@@ -1,4 +1,5 @@
-"""Each exception of the front end and of the library has a name of its own: whoever reads `except Refused` knows which one is meant."""
+"""Each exception of the front end and of the library has a name of its own: whoever reads `except Refused` knows which
+one is meant."""
 import ast
 import builtins
 import collections
@@ -18,7 +19,9 @@ def classes():
                     tree = ast.parse(file.read())
                 for node in ast.walk(tree):
                     if isinstance(node, ast.ClassDef):
-                        yield os.path.relpath(path, rows.ROOT), node.name, [base.id for base in node.bases if isinstance(base, ast.Name)]
+                        yield os.path.relpath(path, rows.ROOT), node.name, [
+                            base.id for base in node.bases if isinstance(base, ast.Name)
+                        ]
 
 
 def exceptions():
@@ -28,7 +31,11 @@ def exceptions():
 
     def is_exception(name):
         built_in = getattr(builtins, name, None)
-        return isinstance(built_in, type) and issubclass(built_in, BaseException) or any(map(is_exception, bases.get(name, [])))
+        return (
+            isinstance(built_in, type)
+            and issubclass(built_in, BaseException)
+            or any(map(is_exception, bases.get(name, [])))
+        )
 
     found = collections.defaultdict(list)
     for path, name, of in known:

@@ -1,4 +1,5 @@
-"""What becomes of packets outside of the model while an update is carried out, and of what the switches keep beside their entries: said before the question."""
+"""What becomes of packets outside of the model while an update is carried out, and of what the switches keep beside
+their entries: said before the question."""
 from __future__ import annotations
 
 import re
@@ -19,7 +20,8 @@ def meanwhile(plan: dict[str, Any], old: Sequence[dict[str, Any]], replies: str)
 
 
 def spans(plan: dict[str, Any]) -> dict[str, tuple[int, int]]:
-    """By switch the rounds, from the first to the last one, in which a two-phase plan has entries that drop at an ingress port all that its other ones don't take."""
+    """By switch the rounds, from the first to the last one, in which a two-phase plan has entries that drop at an
+    ingress port all that its other ones don't take."""
     found: dict[str, tuple[int, int]] = {}
     for number, changes in enumerate(plan["rounds"], 1):
         for _, at in changes:
@@ -35,9 +37,15 @@ def dropped(plan: dict[str, Any], old: Sequence[dict[str, Any]], to_controller: 
     for switch, (first, last) in spans(plan).items() if plan["kind"] == "two-phase" else ():
         rounds = f"in rounds {first} to {last} {switch} drops"
         if switch in to_controller:
-            lines.append(f"Note: {rounds} IP packets of hosts that no rule takes, as of DHCP, which it sends to the controller now.")
+            lines.append(
+                f"Note: {rounds} IP packets of hosts that no rule takes, as of DHCP, which it sends to the controller"
+                " now."
+            )
         if any(rule["switch"] == switch and rule.get("vlan", "any") == "any" for rule in old):
-            lines.append(f"Note: {rounds} IP packets of hosts with VLANs that the topology doesn't declare, which rules for any VLAN take now.")
+            lines.append(
+                f"Note: {rounds} IP packets of hosts with VLANs that the topology doesn't declare, which rules for any"
+                " VLAN take now."
+            )
     return lines
 
 
@@ -48,4 +56,7 @@ def cookies(plan: dict[str, Any], counts: dict[str, str]) -> list[str]:
     if not names:
         return []
     told = ", ".join(f"{counts[name]} at {name}" for name in names)
-    return [f"Note: entries have cookies ({told}): one that the plan deletes, and that is put back where the update is turned back, has the cookie 0 then."]
+    return [
+        f"Note: entries have cookies ({told}): one that the plan deletes, and that is put back where the update is"
+        " turned back, has the cookie 0 then."
+    ]

@@ -27,15 +27,25 @@ def changes_of(plan: dict[str, Any]) -> list[list[tuple[str, str]]]:
 
 
 def summary(plan: dict[str, Any], switches: int, wait: float | None) -> list[str]:
-    """Sentences on a plan in format 2 for a network of so many switches, where it is waited so many seconds before each round; None for the wait where the
-    operator says when a round begins."""
+    """Sentences on a plan in format 2 for a network of so many switches, where it is waited so many seconds before each
+    round; None for the wait where the operator says when a round begins."""
     rounds = changes_of(plan)
     changes = [change for one in rounds for change in one]
-    kinds = [f"{sum(do == kind for do, _ in changes)} {verb}" for kind, verb in VERBS.items() if any(do == kind for do, _ in changes)]
-    lines = [f"The plan has {counted(len(rounds), 'round')} with {counted(len(changes), 'change')} at {len({switch for _, switch in changes})} of {counted(switches, 'switch', 'switches')}: "
-             f"{', '.join(kinds) or 'nothing'} ({'entry' if len(changes) == 1 else 'entries'})."]
+    kinds = [
+        f"{sum(do == kind for do, _ in changes)} {verb}"
+        for kind, verb in VERBS.items()
+        if any(do == kind for do, _ in changes)
+    ]
+    lines = [
+        f"The plan has {counted(len(rounds), 'round')} with {counted(len(changes), 'change')} at"
+        f" {len({switch for _, switch in changes})} of {counted(switches, 'switch', 'switches')}:"
+        f" {', '.join(kinds) or 'nothing'} ({'entry' if len(changes) == 1 else 'entries'})."
+    ]
     if plan["kind"] == "two-phase":
-        lines.append("It works in two phases: packets that enter are marked with a tag, and each goes by the old or by the new rules all the way.")
+        lines.append(
+            "It works in two phases: packets that enter are marked with a tag, and each goes by the old or by the new"
+            " rules all the way."
+        )
     else:
         lines.append("It is ordered: packets keep the VLANs with which they came.")
     if wait is None:

@@ -41,16 +41,25 @@ if TYPE_CHECKING:
 
 WANTED = ("topology", "new", "policy")
 STEPS = ("collect", "import", "plan", "check", "apply")
-# The commands of the program that make a plan, the preferred one first. A command that makes plans of fewer rounds has its place before `plan`.
+# The commands of the program that make a plan, the preferred one first. A command that makes plans of fewer rounds has
+# its place before `plan`.
 PLANNERS = ("pack", "plan")
 REFUSED, BAD_FILE, UNREADABLE, UNWRITABLE = 1, 3, 6, 7
 # What to do next where a step of the program doesn't end with 0, by the step and the status.
 NEXT = {
-    ("import", BAD_FILE): "change at the switches, or in topology.json, what it names; docs/FORMATS.md has every refusal",
-    ("plan", REFUSED): "in the tables of the switches (`old`) or in new.json (`new`) packets have no good path: `planner page {topology} {config} {policy}` shows it",
+    (
+        "import", BAD_FILE,
+    ): "change at the switches, or in topology.json, what it names; docs/FORMATS.md has every refusal",
+    ("plan", REFUSED): (
+        "in the tables of the switches (`old`) or in new.json (`new`) packets have no good path: `planner page"
+        " {topology} {config} {policy}` shows it"
+    ),
     ("plan", BAD_FILE): "correct that file; docs/FORMATS.md has every refusal",
     ("plan", 4): "no order of single changes was found, and two phases want more tags: widen `tags` in topology.json",
-    ("plan", 5): "no order of single changes was found, and two phases want more room: make room at the switch, or give its true capacity in topology.json",
+    ("plan", 5): (
+        "no order of single changes was found, and two phases want more room: make room at the switch, or give its true"
+        " capacity in topology.json"
+    ),
 }
 
 
@@ -58,7 +67,10 @@ NEXT = {
 NEXT_OF_KIND = {
     ("ordered", REFUSED): "without --ordered a two-phase plan is made, where there are tags and room for it",
     ("two-phase", 4): "two phases want more tags: widen `tags` in topology.json, or leave --two-phase out",
-    ("two-phase", 5): "two phases want more room: make room at the switch, give its true capacity in topology.json, or leave --two-phase out",
+    ("two-phase", 5): (
+        "two phases want more room: make room at the switch, give its true capacity in topology.json, or leave"
+        " --two-phase out"
+    ),
 }
 
 
@@ -112,19 +124,30 @@ class Update:
                 with open(path, "rb") as file:
                     file.read(1)
             except OSError as fault:
-                raise Stopped("the files", f"{path} can't be read: {fault.strerror}", f"{self.options.folder} has to have {', '.join(f'{name}.json' for name in WANTED)}", UNREADABLE) from fault
+                raise Stopped(
+                    "the files", f"{path} can't be read: {fault.strerror}",
+                    f"{self.options.folder} has to have {', '.join(f'{name}.json' for name in WANTED)}", UNREADABLE,
+                ) from fault
         try:
             with open(self.files["topology"], encoding="utf-8") as file:
                 self.switches = len(json.load(file)["switches"])
         except (ValueError, KeyError, TypeError, RecursionError) as fault:
             say_why("config", self.files["topology"], self.files["new"], self.files["policy"])
-            raise Stopped("the files", f"{self.files['topology']} is no topology", "docs/FORMATS.md has the members of one", BAD_FILE) from fault
+            raise Stopped(
+                "the files", f"{self.files['topology']} is no topology", "docs/FORMATS.md has the members of one",
+                BAD_FILE,
+            ) from fault
 
     def warn(self) -> None:
         """Says what there is to warn of in the files. The runs behind that say no warning."""
-        self.warnings, is_ended = look(self.how, "config", self.files["topology"], self.files["new"], self.files["policy"])
+        self.warnings, is_ended = look(
+            self.how, "config", self.files["topology"], self.files["new"], self.files["policy"]
+        )
         if is_ended:
-            raise Stopped("the files", "there are warnings, and --strict is given", "correct what they name, or leave out --strict", BAD_FILE)
+            raise Stopped(
+                "the files", "there are warnings, and --strict is given",
+                "correct what they name, or leave out --strict", BAD_FILE,
+            )
         self.how = self.how.behind_warnings()
 
     def make_folder(self) -> None:
@@ -138,14 +161,20 @@ class Update:
             except FileExistsError:
                 number += 1
             except OSError as fault:
-                raise Stopped("the files", f"{self.made} can't be made: {fault.strerror}", "see that the folder may be written to", UNWRITABLE) from fault
+                raise Stopped(
+                    "the files", f"{self.made} can't be made: {fault.strerror}",
+                    "see that the folder may be written to", UNWRITABLE,
+                ) from fault
 
     def write(self, name: str, text: str) -> None:
         try:
             with open(self.path(name), "x", encoding="utf-8") as file:
                 file.write(text)
         except OSError as fault:
-            raise Stopped("the files", f"{self.path(name)} can't be written: {fault.strerror}", "make room, and begin again", UNWRITABLE) from fault
+            raise Stopped(
+                "the files", f"{self.path(name)} can't be written: {fault.strerror}", "make room, and begin again",
+                UNWRITABLE,
+            ) from fault
 
     def connection_words(self) -> list[str]:
         words = ["--switches", self.options.switches]
@@ -154,8 +183,10 @@ class Update:
     def collect(self) -> str:
         """What the switches answer for their tables."""
         progress(f"step 1: the tables of {self.switches} switches are read")
-        asked = argparse.Namespace(topology=self.files["topology"], switches=self.options.switches, patience=self.options.patience,
-                                   listen=host_and_port(self.options.listen) if self.options.listen else None)
+        asked = argparse.Namespace(
+            topology=self.files["topology"], switches=self.options.switches, patience=self.options.patience,
+            listen=host_and_port(self.options.listen) if self.options.listen else None,
+        )
         try:
             tables = collect.read(asked)
             found = under_way.find(self.options.folder, tables, self.apply_line)
@@ -174,9 +205,14 @@ class Update:
             return text
         then = NEXT.get((step, status), "docs/FORMATS.md has every refusal")
         if text.startswith(("no ordered plan\n", "too ")):
-            then = next((NEXT_OF_KIND[kind, status] for kind in self.options.kind if (kind, status) in NEXT_OF_KIND), then)
+            then = next(
+                (NEXT_OF_KIND[kind, status] for kind in self.options.kind if (kind, status) in NEXT_OF_KIND), then
+            )
         config = self.path("old.json") if " old " in text else self.files["new"]
-        raise Stopped(step, f"`planner {command}` says: {'; '.join(text.splitlines()) or f'nothing, with status {status}'}", then.format(config=config, **self.files), status)
+        raise Stopped(
+            step, f"`planner {command}` says: {'; '.join(text.splitlines()) or f'nothing, with status {status}'}",
+            then.format(config=config, **self.files), status,
+        )
 
     def plan(self) -> dict[str, Any]:
         """The plan, which `check` accepts."""
@@ -193,34 +229,49 @@ class Update:
             try:
                 shutil.copyfile(path, self.path(f"{name}.json"))
             except OSError as fault:
-                raise Stopped("the files", f"{self.path(name)}.json can't be written: {fault.strerror}", "make room, and begin again", UNWRITABLE) from fault
+                raise Stopped(
+                    "the files", f"{self.path(name)}.json can't be written: {fault.strerror}",
+                    "make room, and begin again", UNWRITABLE,
+                ) from fault
 
     def show(self, plan: dict[str, Any]) -> None:
-        """Shows what the plan does: entry by entry where somebody is asked or only looks, in a summary, what changes for whom, and what is to be known of
-        packets outside of the model and of cookies."""
+        """Shows what the plan does: entry by entry where somebody is asked or only looks, in a summary, what changes
+        for whom, and what is to be known of packets outside of the model and of cookies."""
         tell: Callable[..., None] = say
         if self.options.yes or self.options.dry_run:
             tell = progress
         whom = diff.summary(self.files["topology"], self.path("old.json"), self.files["new"], self.files["policy"])
         other = self.other_words(OTHER[plan["kind"]]) if self.options.dry_run or not self.options.yes else []
-        told = [*summary(plan, self.switches, None if self.options.ask else self.options.wait), *other, *whom, *self.meanwhile(plan)]
+        told = [
+            *summary(plan, self.switches, None if self.options.ask else self.options.wait), *other, *whom,
+            *self.meanwhile(plan),
+        ]
         for line in [*([] if self.options.yes else self.entries(plan)), *told]:
             tell(line)
 
     def entries(self, plan: dict[str, Any]) -> list[str]:
         """The lines of `show` for a plan."""
-        network, rules = nets.Network(read_json(self.files["topology"])), nets.plain(read_json(self.path("old.json")).root)["rules"]
-        lines = show.plan_lines(self.path("plan.json"), show.plan_values(plan, rules, network, self.options.wait), network, rules)
+        network, rules = (
+            nets.Network(read_json(self.files["topology"])), nets.plain(read_json(self.path("old.json")).root)["rules"],
+        )
+        lines = show.plan_lines(
+            self.path("plan.json"), show.plan_values(plan, rules, network, self.options.wait), network, rules
+        )
         return [line for line in lines if not (self.options.ask and line.startswith("time: "))] + [""]
 
     def meanwhile(self, plan: dict[str, Any]) -> list[str]:
         """What is to be known of packets outside of the model, and of cookies."""
-        with open(self.path("old.json"), encoding="utf-8") as old, open(self.path("replies"), encoding="ascii") as replies:
+        with open(self.path("old.json"), encoding="utf-8") as old, open(
+            self.path("replies"), encoding="ascii"
+        ) as replies:
             return meanwhile(plan, json.load(old)["rules"], replies.read())
 
     def see_that_it_is_heard(self) -> None:
         if TELLING.fault is not None:
-            raise Stopped("the question", "the error stream is closed, and nobody hears what happens", "do it where its lines are read")
+            raise Stopped(
+                "the question", "the error stream is closed, and nobody hears what happens",
+                "do it where its lines are read",
+            )
 
     def other_words(self, kind: str) -> list[str]:
         """What a plan of a kind would cost, or why there is none."""
@@ -232,9 +283,14 @@ class Update:
         if self.options.yes:
             return
         if sys.stdin is None or not sys.stdin.isatty():
-            raise Stopped("the question", "there is no terminal to ask", "answer it with --yes, or look first with --dry-run")
+            raise Stopped(
+                "the question", "there is no terminal to ask", "answer it with --yes, or look first with --dry-run"
+            )
         if self.warnings:
-            say(f"There {'is 1 warning' if self.warnings == 1 else f'are {self.warnings} warnings'}: see the first lines.")
+            say(
+                f"There {'is 1 warning' if self.warnings == 1 else f'are {self.warnings} warnings'}: see the first"
+                " lines."
+            )
         say("Carry it out? [y/N] ", end="")
         self.see_that_it_is_heard()
         if sys.stdin.readline().strip().lower() not in ("y", "yes"):
@@ -244,13 +300,17 @@ class Update:
         """The words of `planner apply` for this update, or for the files and the record of another one."""
         files = files or [self.path(f"{name}.json") for name in ("topology", "old", "new", "policy", "plan")]
         wait = ["--ask"] if self.options.ask else ["--wait", f"{self.options.wait:g}"]
-        return [program.typed(), "apply", *files, record or self.path("record"), *self.connection_words(), *wait, "--patience", f"{self.options.patience:g}"]
+        return [
+            program.typed(), "apply", *files, record or self.path("record"), *self.connection_words(), *wait,
+            "--patience", f"{self.options.patience:g}",
+        ]
 
     def apply_line(self, files: Sequence[str], record: str) -> str:
         return shlex.join(self.apply_words(files, record))
 
     def apply(self) -> int:
-        """Carries the plan out. What stands in the way is said by `apply` itself; behind it come the lines to go on with and to turn back with."""
+        """Carries the plan out. What stands in the way is said by `apply` itself; behind it come the lines to go on
+        with and to turn back with."""
         words = self.apply_words()
         status = apply.main(words[2:], self.how)
         record = self.path("record")
@@ -266,7 +326,9 @@ class Update:
 
 
 def main(words: Sequence[str]) -> int:
-    parser = argparse.ArgumentParser(prog="planner update", description=__doc__, formatter_class=argparse.RawDescriptionHelpFormatter)
+    parser = argparse.ArgumentParser(
+        prog="planner update", description=__doc__, formatter_class=argparse.RawDescriptionHelpFormatter
+    )
     parser.add_argument("folder", metavar="DIR")
     parser.add_argument("--switches", metavar="FILE", required=True)
     parser.add_argument("--listen", metavar="HOST:PORT")
