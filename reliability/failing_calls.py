@@ -6,6 +6,8 @@ with the answer of a run in which nothing fails. Writes are tried also where eac
 the front is one of every length. Prints what it found; the exit status is 1 where a run ended otherwise.
 
     PLANNER=.. reliability/failing_calls.py"""
+from __future__ import annotations
+
 import collections
 import itertools
 import pathlib
@@ -14,6 +16,10 @@ import tempfile
 
 import runs
 
+TYPE_CHECKING = False
+if TYPE_CHECKING:
+    from typing import Sequence
+
 # What fails, whether all later calls fail too, and whether each write takes one byte only.
 WAYS = [
     ("open", False, False), ("open", True, False), ("read", False, False), ("read", True, False),
@@ -21,7 +27,7 @@ WAYS = [
 ]
 
 
-def kind_of(what, ample, answer):
+def kind_of(what: str, ample: runs.Answer, answer: runs.Answer) -> str:
     """What a run in which a call failed shows."""
     if answer == ample:
         return "answered"
@@ -37,10 +43,12 @@ def kind_of(what, ample, answer):
     return "changed"
 
 
-def fail_each(program, words, folder, library, way):
+def fail_each(
+    program: str, words: Sequence[str], folder: pathlib.Path, library: str, way: tuple[str, bool, bool]
+) -> collections.Counter[str]:
     """All runs of one command in one way: how many of each kind."""
     ample = runs.plain_run(program, words, folder)
-    found = collections.Counter()
+    found: collections.Counter[str] = collections.Counter()
     for at in itertools.count(1):
         answer, met = runs.refused_run(program, words, folder, library, way[0], at, *way[1:])
         if not met:
@@ -51,14 +59,15 @@ def fail_each(program, words, folder, library, way):
         found[kind] += 1
         if kind == "changed":
             print(f"  {runs.title(words)}, {way[0]} {at}: status {answer.status}, {len(answer.text)} bytes")
+    raise AssertionError("calls are counted without an end")
 
 
-def attack(program, commands, folder):
+def attack(program: str, commands: Sequence[Sequence[str]], folder: pathlib.Path) -> collections.Counter[str]:
     """Runs all commands in all ways; prints a line for each way, and the sum, which it answers."""
     library = runs.library(folder)
-    total = collections.Counter()
+    total: collections.Counter[str] = collections.Counter()
     for way in WAYS:
-        found = collections.Counter()
+        found: collections.Counter[str] = collections.Counter()
         for words in commands:
             found += fail_each(program, words, folder, library, way)
         what, stay, short = way
@@ -76,7 +85,7 @@ def attack(program, commands, folder):
     return total
 
 
-def main():
+def main() -> None:
     with tempfile.TemporaryDirectory() as name:
         folder = pathlib.Path(name)
         runs.example_folder(folder)

@@ -8,6 +8,8 @@ run ended otherwise. As memory of a run the system counts at least that of this 
 
 The files have --mebibytes (4) MiB; the shape that took most memory is tried again with files of --worst (16) MiB, with
 fewer commands."""
+from __future__ import annotations
+
 import argparse
 import collections
 import dataclasses
@@ -21,17 +23,21 @@ import tempfile
 
 import runs
 
+TYPE_CHECKING = False
+if TYPE_CHECKING:
+    from typing import Any, Iterable, Iterator, Sequence
+
 MB = 10**6
 FIRST_LIMIT = 32 * MB
 DEEPEST = 120
 
 
-def listed(item, size):
+def listed(item: str, size: int) -> str:
     """A list of so many equal items that it has about `size` bytes."""
     return "[" + ",".join([item] * (size // (len(item) + 1))) + "]"
 
 
-def members(size):
+def members(size: int) -> str:
     """An object of many members with short names, each another."""
     return "{" + ",".join(f'"{i:x}":0' for i in range(size // 11)) + "}"
 
@@ -54,16 +60,16 @@ WASTE = {
 }
 
 
-def listed_picks(count):
+def listed_picks(count: int) -> str:
     return "[" + ",".join(f"[{1 + i // 8192},{i % 8192},0,[]]" for i in range(count)) + "]"
 
 
-def change(i):
+def change(i: int) -> str:
     return (f'{{"do":"insert","switch":"s{1 + i % 4}","priority":{1 + i % 16383},"in_port":{1 + i // 16383 % 60000},'
             f'"dst":"10.0.{i % 256}.0/24","out":2}}')
 
 
-def plan_of(rounds, numberings, picks):
+def plan_of(rounds: str, numberings: str, picks: str) -> str:
     return f'{{"format":1,"kind":"ordered","befores":[],"numberings":{numberings},"picks":{picks},"rounds":{rounds}}}'
 
 
@@ -99,7 +105,7 @@ class Attack:
     shape: str
 
 
-def attacks(with_every_command):
+def attacks(with_every_command: Sequence[Any]) -> Iterator[Attack]:
     square = runs.update("square")
     plan_words = [
         ("check", *square, "plan.json"), ("upgrade", square[0], "plan.json"), ("emit", square[0], "plan.json"),
@@ -125,7 +131,7 @@ def attacks(with_every_command):
     yield from (Attack(("import", square[0], "replies"), "replies", shape) for shape in REPLIES)
 
 
-def write(attack, folder, size):
+def write(attack: Attack, folder: pathlib.Path, size: int) -> int:
     """Writes the large file; answers its size."""
     if attack.shape in WASTE:
         example = (folder / "square" / attack.file).read_text().strip()
@@ -137,9 +143,11 @@ def write(attack, folder, size):
     return len(text)
 
 
-def run(program, words, folder, out, limit=None):
+def run(
+    program: str, words: tuple[str, ...], folder: pathlib.Path, out: pathlib.Path, limit: int | None = None
+) -> tuple[int, int]:
     """Runs the program, its text going to the file `out`; answers its status and its greatest memory in bytes."""
-    def set_limit():
+    def set_limit() -> None:
         if limit is not None:
             resource.setrlimit(resource.RLIMIT_AS, (limit, limit))
     with open(out, "wb") as text:
@@ -152,12 +160,13 @@ def run(program, words, folder, out, limit=None):
     return child.returncode, usage.ru_maxrss * 1024
 
 
-def limited(program, attack, folder):
+def limited(program: str, attack: Attack, folder: pathlib.Path) -> tuple[collections.Counter[str], int, int]:
     """Runs a command under ever greater limits; answers what was counted, the greatest memory, and the limit under
     which it answered."""
     ample, out = folder / "ample", folder / "out"
     status, memory = run(program, attack.words, folder, ample)
-    found, limit = collections.Counter(), FIRST_LIMIT
+    found: collections.Counter[str] = collections.Counter()
+    limit = FIRST_LIMIT
     while True:
         ended, _ = run(program, attack.words, folder, out, limit)
         found["runs"] += 1
@@ -176,10 +185,14 @@ def limited(program, attack, folder):
         limit *= 2
 
 
-def attack_all(program, folder, chosen, size):
+def attack_all(
+    program: str, folder: pathlib.Path, chosen: Iterable[Attack], size: int
+) -> tuple[collections.Counter[str], Attack | None, float]:
     """Tries the attacks with files of a size; answers what was counted, and the attack that took the most memory for a
     byte."""
-    total, worst, most = collections.Counter(), None, 0.0
+    total: collections.Counter[str] = collections.Counter()
+    most = 0.0
+    worst = None
     for attack in chosen:
         length = write(attack, folder, size)
         found, memory, limit = limited(program, attack, folder)
@@ -197,7 +210,7 @@ def attack_all(program, folder, chosen, size):
     return total, worst, most
 
 
-def line(title, total, most):
+def line(title: str, total: Any, most: float) -> str:
     return (
         f"{title}: {total['runs']} runs, {total['wanting']} status 9 and nothing written, {total['answered']} with the"
         f" answer; answers changed {total['changed']}, bytes written too many {total['bytes']}, ended by a signal"
@@ -205,7 +218,7 @@ def line(title, total, most):
     )
 
 
-def main():
+def main() -> None:
     parser = argparse.ArgumentParser()
     parser.add_argument("--mebibytes", type=int, default=4)
     parser.add_argument("--worst", type=int, default=16)
@@ -216,6 +229,7 @@ def main():
         runs.example_folder(folder)
         total, worst, most = attack_all(program, folder, attacks(WITH_EVERY_COMMAND), chosen.mebibytes * 2**20)
         print(line(f"files of {chosen.mebibytes} MiB", total, most), flush=True)
+        assert worst is not None
         again = [attack for attack in attacks(()) if attack.shape == worst.shape]
         more, _, most = attack_all(program, folder, again, chosen.worst * 2**20)
         print(line(f"{worst.shape}, files of {chosen.worst} MiB", more, most))

@@ -1,5 +1,7 @@
 """What the scripts of this folder share: the program, the commands over the example files, and a run of the program
 with one call refused."""
+from __future__ import annotations
+
 import dataclasses
 import os
 import pathlib
@@ -7,6 +9,10 @@ import shutil
 import subprocess
 import sys
 import tempfile
+
+TYPE_CHECKING = False
+if TYPE_CHECKING:
+    from typing import Any, Sequence
 
 ROOT = pathlib.Path(__file__).resolve().parent.parent
 LIBRARY_SOURCE = ROOT / "reliability" / "refuse.c"
@@ -28,7 +34,7 @@ class Answer:
     errors: bytes = b""
 
 
-def program():
+def program() -> str:
     """The built program: that of the variable PLANNER, or the repository's own, which is built where that of dist/
     can't be run."""
     named = os.environ.get("PLANNER")
@@ -39,20 +45,20 @@ def program():
     return own.built()
 
 
-def example_folder(folder):
+def example_folder(folder: pathlib.Path) -> None:
     """Copies the examples to the folder and writes the input of `drive`."""
     for name in ("square", "detour", "leaf-spine"):
         shutil.copytree(ROOT / "examples" / name, folder / name)
     (folder / "square" / "input").write_text(INPUT)
 
 
-def update(name, *more):
+def update(name: str, *more: str) -> list[str]:
     return [f"{name}/{file}" for file in ("topology.json", "old.json", "new.json", "policy.json")] + [
         f"{name}/{file}" for file in more
     ]
 
 
-def example_commands():
+def example_commands() -> Any:
     """Each command over the example files, as lists of words, but `serve`, which serve.py is about."""
     commands = []
     for name in ("square", "detour"):
@@ -86,21 +92,21 @@ def example_commands():
     return commands
 
 
-def title(words):
+def title(words: Sequence[str]) -> str:
     """A short name of a command: its word and the file that tells it from the others."""
     folder = words[1].split("/")[0]
     special = [word.split("/")[-1] for word in words if "at-once" in word or "two-waypoints" in word]
     return " ".join([words[0], folder, *special])
 
 
-def library(folder):
+def library(folder: pathlib.Path) -> str:
     """Compiles the library that refuses calls into the folder; answers its path."""
     built = folder / "refuse.so"
     subprocess.run(["cc", "-O2", "-Wall", "-fPIC", "-shared", "-o", str(built), str(LIBRARY_SOURCE)], check=True)
     return str(built)
 
 
-def plain_run(program_path, words, folder):
+def plain_run(program_path: str, words: Sequence[str], folder: pathlib.Path) -> Answer:
     """A run in which nothing is refused."""
     done = subprocess.run(
         [program_path, *words], cwd=folder, stdin=subprocess.DEVNULL, stdout=subprocess.PIPE, stderr=subprocess.PIPE
@@ -108,7 +114,10 @@ def plain_run(program_path, words, folder):
     return Answer(done.returncode, done.stdout, done.stderr)
 
 
-def refused_run(program_path, words, folder, library_path, what, at, stay=False, short=False):
+def refused_run(
+    program_path: str, words: Sequence[str], folder: pathlib.Path, library_path: str, what: str, at: int,
+    stay: bool = False, short: bool = False,
+) -> tuple[Answer, bool]:
     """A run in which call number `at` of a kind fails; answers how it ended, and whether it came to that call."""
     with tempfile.TemporaryFile() as report:
         variables = {

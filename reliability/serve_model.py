@@ -38,10 +38,16 @@ missing. A switch with a session that isn't open gets nothing then. When its HEL
 messages of the running round that it hasn't answered, with the xids that they had: of a round that is being undone the
 inverses alone.
 """
+from __future__ import annotations
+
 import dataclasses
 import ipaddress
 import re
 import struct
+
+TYPE_CHECKING = False
+if TYPE_CHECKING:
+    from typing import Any, Callable, Sequence
 
 HELLO, ERROR, ECHO_REQUEST, ECHO_REPLY, FLOW_MOD, BARRIER_REQUEST, BARRIER_REPLY = 0, 1, 2, 3, 14, 18, 19
 HELLO_BYTES = bytes.fromhex("0100000800000000")
@@ -65,14 +71,14 @@ class Change:
     rule: tuple
 
     @staticmethod
-    def read(do, item):
+    def read(do: str, item: dict[str, Any]) -> Change:
         return Change(
             do, item["switch"],
             tuple(sorted((key, value) for key, value in item.items() if key not in ("do", "switch"))),
         )
 
     @property
-    def key(self):
+    def key(self) -> tuple[str, int, int | str, str, Any]:
         """The switch, and the entry of its table: priority and match."""
         rule = dict(self.rule)
         return (
@@ -80,7 +86,7 @@ class Change:
             ipaddress.ip_network(rule["dst"]),
         )
 
-    def message(self, xid):
+    def message(self, xid: int) -> bytes:
         """The flow message (OpenFlow 1.0.0, section 5.3.3)."""
         rule, command = dict(self.rule), {"insert": 0, "replace": 2, "delete": 4}[self.do]
         port, vlan, block = rule.get("in_port", "any"), rule.get("vlan", "any"), ipaddress.ip_network(rule["dst"])
@@ -106,7 +112,7 @@ class Change:
         return message(FLOW_MOD, xid, body)
 
 
-def actions_of(rule):
+def actions_of(rule: dict[str, Any]) -> bytes:
     if rule["out"] == "drop":
         return b""
     rewrite = (
@@ -119,18 +125,18 @@ def actions_of(rule):
     return rewrite + struct.pack("!HHHH", 0, 8, rule["out"], 0)
 
 
-def message(kind, xid, body=b""):
+def message(kind: int, xid: int, body: bytes = b"") -> bytes:
     return struct.pack("!BBHI", 1, kind, 8 + len(body), xid) + body
 
 
-def rounds_of(plan):
+def rounds_of(plan: dict[str, Any]) -> list[list[Change]]:
     """The rounds of a plan in either format, as lists of changes."""
     if plan["format"] == 1:
         return [[Change.read(item["do"], item) for item in changes] for changes in plan["rounds"]]
     return [[Change.read(do, plan["rules"][at]) for do, at in changes] for changes in plan["rounds"]]
 
 
-def inverse(changes, table):
+def inverse(changes: Sequence[Change], table: dict[Any, Any]) -> list[Change]:
     """What takes a round back, where the tables before it were these, as the rules by their keys."""
     undone = []
     for change in reversed(changes):
@@ -139,7 +145,7 @@ def inverse(changes, table):
     return undone
 
 
-def after(changes, table):
+def after(changes: Sequence[Change], table: dict[Any, Any]) -> dict[Any, Any]:
     """The tables after a round."""
     gone = {change.key for change in changes if change.do == "delete"}
     made = {change.key: change.rule for change in changes if change.do != "delete"}
@@ -154,7 +160,7 @@ class Session:
     xid of each, and its way."""
     state: str = WAITING
     unread: bytes = b""
-    due: list = dataclasses.field(default_factory=list)
+    due: list[Any] = dataclasses.field(default_factory=list)
 
 
 @dataclasses.dataclass
@@ -162,34 +168,45 @@ class Sending:
     """What one way of a round sends: messages by switch, the last of each a barrier request; and the switches that
     haven't answered that."""
     way: str
-    messages: dict
-    unanswered: set
+    messages: dict[str, Any]
+    unanswered: set[str]
 
 
 class Serve:
     """What is said of an update, line by line. The events of all blocks are kept in `events`."""
 
-    def __init__(self, topology, old, plan):
+    def __init__(
+        self, topology: dict[str, list[Any]], old: dict[str, list[dict[str, Any]]], plan: dict[str, Any]
+    ) -> None:
         self.switches = [one["name"] for one in topology["switches"]]
         self.rounds = rounds_of(plan)
-        self.tables = [{change.key: change.rule for change in (Change.read("insert", item) for item in old["rules"])}]
+        self.tables: list[dict[Any, Any]] = [
+            {change.key: change.rule for change in (Change.read("insert", item) for item in old["rules"])}
+        ]
         for changes in self.rounds:
             self.tables.append(after(changes, self.tables[-1]))
         self.sessions = {name: Session() for name in self.switches}
-        self.settled, self.sending, self.in_force, self.last_xid = 0, None, set(), 0
-        self.events, self.block = [], []
+        self.settled, self.last_xid = 0, 0
+        self.sending: Sending | None = None
+        self.in_force: set[int] = set()
+        self.events: list[str] = []
+        self.block: list[str] = []
 
     # -- lines
 
-    def begin(self):
+    def begin(self) -> list[str]:
         """The block of line 0."""
-        return self.told(lambda: [self.send(name, HELLO_BYTES) for name in self.switches])
+        def greet() -> None:
+            for name in self.switches:
+                self.send(name, HELLO_BYTES)
 
-    def line(self, text):
+        return self.told(greet)
+
+    def line(self, text: bytes) -> list[str]:
         """The block of a line, which is given without its line end."""
         return self.told(lambda: self.follow(text))
 
-    def told(self, act):
+    def told(self, act: Callable[..., Any]) -> list[str]:
         self.block = []
         try:
             act()
@@ -198,7 +215,7 @@ class Serve:
         running = f"running {self.number_of_running()}" if self.sending else f"settled {self.settled}"
         return [*self.block, f"ok {running} of {len(self.rounds)}"]
 
-    def follow(self, text):
+    def follow(self, text: bytes) -> None:
         if len(text) > LONGEST_LINE:
             raise No("bad line")
         if text == b"" or text.startswith(b"#"):
@@ -222,15 +239,15 @@ class Serve:
 
     # -- rounds
 
-    def number_of_running(self):
+    def number_of_running(self) -> int:
         """The number, from 1, of the round that runs: `settled` counts those that were settled before it, also while it
         is being undone."""
         return self.settled + 1
 
-    def running(self):
+    def running(self) -> list[Change]:
         return self.rounds[self.settled]
 
-    def start(self):
+    def start(self) -> None:
         if self.sending:
             raise No("no running")
         if self.settled == len(self.rounds):
@@ -240,7 +257,7 @@ class Serve:
         self.in_force = set()
         self.send_round(FORWARD, self.running())
 
-    def back(self):
+    def back(self) -> None:
         if self.sending and self.sending.way == BACK:
             raise No("no running")
         if not self.sending:
@@ -252,13 +269,13 @@ class Serve:
             self.log("back")
         self.send_round(BACK, inverse(self.running(), self.tables[self.settled]))
 
-    def refuse_unless_open(self, changes):
+    def refuse_unless_open(self, changes: Sequence[Change]) -> None:
         touched = {change.switch for change in changes}
         for name in self.switches:
             if name in touched and self.sessions[name].state != OPEN:
                 raise No(f"no open {name}")
 
-    def send_round(self, way, changes):
+    def send_round(self, way: str, changes: Sequence[Change]) -> None:
         """Sends changes, and barrier requests behind them, to those that are open. All get their xids."""
         touched = [name for name in self.switches if any(change.switch == name for change in changes)]
         numbered = [(change.switch, change.message(self.next_xid())) for change in changes]
@@ -271,17 +288,17 @@ class Serve:
                 self.send(name, piece)
         self.settle_if_answered()
 
-    def next_xid(self):
+    def next_xid(self) -> int:
         self.last_xid = 1 if self.last_xid == LAST_XID else self.last_xid + 1
         return self.last_xid
 
-    def settle_if_answered(self):
+    def settle_if_answered(self) -> None:
         if self.sending and not self.sending.unanswered:
             self.settled += self.sending.way == FORWARD
             self.sending = None
             self.log("settle")
 
-    def answered(self, name, way):
+    def answered(self, name: str, way: str) -> None:
         """A switch has answered the barrier request of one way of the running round."""
         own = [number for number, change in enumerate(self.running()) if change.switch == name]
         if way == FORWARD:
@@ -292,17 +309,17 @@ class Serve:
             for number in sorted(self.in_force & {*own}, reverse=True):
                 self.log(f"undo {number}")
             self.in_force -= {*own}
-        if way == self.sending.way:
+        if self.sending is not None and way == self.sending.way:
             self.sending.unanswered.discard(name)
             self.settle_if_answered()
 
     # -- sessions
 
-    def reopen(self, name):
+    def reopen(self, name: str) -> None:
         self.sessions[name] = Session()
         self.send(name, HELLO_BYTES)
 
-    def feed(self, name, piece):
+    def feed(self, name: str, piece: bytes) -> None:
         session = self.sessions[name]
         if session.state == FAILED:
             return
@@ -318,7 +335,7 @@ class Serve:
                 taken, session.unread = session.unread[:length], session.unread[length:]
                 self.take(name, session, taken)
 
-    def take(self, name, session, taken):
+    def take(self, name: str, session: Session, taken: bytes) -> None:
         """A whole message came."""
         kind, xid = taken[1], int.from_bytes(taken[4:8], "big")
         if kind == HELLO:
@@ -337,28 +354,29 @@ class Serve:
             else:
                 self.fail(name, f"Xid {xid}")
 
-    def send_again(self, name):
+    def send_again(self, name: str) -> None:
         """A session is open: the switch gets what it hasn't answered of the running round."""
         if self.sending and name in self.sending.unanswered:
             for piece in self.sending.messages[name]:
                 self.send(name, piece)
 
-    def fail(self, name, cause):
+    def fail(self, name: str, cause: str) -> None:
         session = self.sessions[name]
-        session.state, session.unread, session.due = FAILED, b"", []
+        session.state, session.unread = FAILED, b""
+        session.due = []
         self.block.append(f"failed {name} {cause}")
 
-    def send(self, name, piece):
+    def send(self, name: str, piece: bytes) -> None:
         self.block.append(f"send {name} {piece.hex()}")
-        if piece[1] == BARRIER_REQUEST:
+        if piece[1] == BARRIER_REQUEST and self.sending is not None:
             self.sessions[name].due.append((int.from_bytes(piece[4:8], "big"), self.sending.way))
 
-    def log(self, event):
+    def log(self, event: str) -> None:
         self.block.append(event)
         self.events.append(event)
 
 
-def fault_of_header(unread):
+def fault_of_header(unread: bytes) -> str | None:
     """What is wrong with the header of the message that comes next, or None."""
     version, kind, length = struct.unpack("!BBH", unread[:4])
     if version == 0 or (version != 1 and kind != HELLO):
@@ -368,13 +386,13 @@ def fault_of_header(unread):
     return None
 
 
-def lines_of(text):
+def lines_of(text: bytes) -> Any:
     """The lines of an input, without their ends. The last one may lack its end."""
     lines = text.split(b"\n")
     return lines[:-1] if lines[-1] == b"" else lines
 
 
-def said(topology, old, plan, text):
+def said(topology: dict[str, Any], old: dict[str, Any], plan: dict[str, Any], text: bytes) -> Any:
     """Everything that is said of an input, the block of line 0 first."""
     serve = Serve(topology, old, plan)
     return [serve.begin(), *(serve.line(line) for line in lines_of(text))]
