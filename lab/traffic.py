@@ -16,6 +16,8 @@
 A packet is broken where it came to a switch twice, left without having met its waypoints, was lost though it must
 arrive, or left with another VLAN.
 """
+from __future__ import annotations
+
 import collections
 import json
 import os
@@ -35,20 +37,24 @@ sys.path[:0] = [
 import fake_switch
 from planner_tools.switches import openflow
 
+TYPE_CHECKING = False
+if TYPE_CHECKING:
+    from typing import Any, Callable, Iterator, Sequence
+
 FIRST_PORT = int(os.environ.get("FIRST_PORT", "17100"))
 PAUSE = float(os.environ.get("PAUSE", "0.002"))
 
 
-def number_of(address):
+def number_of(address: str) -> int:
     return int.from_bytes(socket.inet_aton(address), "big")
 
 
-def is_in(address, prefix):
+def is_in(address: int, prefix: str) -> bool:
     base, length = prefix.split("/")
     return (number_of(base) ^ address) >> 32 - int(length) == 0
 
 
-def fits(rule, port, vlan, address):
+def fits(rule: dict[str, Any], port: int | None, vlan: str, address: int) -> bool:
     """Whether a rule or a demand is for a packet."""
     return (
         rule.get("in_port", "any") in ("any", port)
@@ -59,8 +65,8 @@ def fits(rule, port, vlan, address):
 
 # ---- the bridges
 
-def bridges(folder, topology, slow=""):
-    def add_port(end, more=""):
+def bridges(folder: pathlib.Path, topology: dict[str, Any], slow: str = "") -> None:
+    def add_port(end: str, more: str = "") -> None:
         switch, port = end.split(":")
         print(f"-- add-port {switch} {switch}_{port} -- set interface {switch}_{port} type=dummy ofport_request={port} "
               f"options:tx_pcap={folder}/{switch}_{port}.tx options:rxq_pcap={folder}/{switch}_{port}.rx {more}")
@@ -85,7 +91,7 @@ def bridges(folder, topology, slow=""):
         add_port(right, f"options:stream=unix:{folder}/{name}.{slow or 'link'}")
 
 
-def flow(rule):
+def flow(rule: dict[str, Any]) -> str:
     """A rule in the words of ovs-ofctl."""
     vlan = rule.get("vlan", "any")
     words = f"priority={rule['priority']},ip,nw_dst={rule['dst']}"
@@ -94,14 +100,14 @@ def flow(rule):
     return words + f",actions={'drop' if rule['out'] == 'drop' else 'output:%d' % rule['out']}\n"
 
 
-def load(folder, topology, config):
+def load(folder: pathlib.Path, topology: dict[str, Any], config: dict[str, Any]) -> None:
     for switch in topology["switches"]:
         rules = "".join(flow(rule) for rule in config["rules"] if rule["switch"] == switch["name"])
         words = ["ovs-ofctl", "-O", "OpenFlow10", "replace-flows", f"unix:{folder}/{switch['name']}.mgmt", "-"]
         subprocess.run(words, input=rules, text=True, check=True, timeout=60)
 
 
-def flow_message(rule, is_kept):
+def flow_message(rule: dict[str, Any], is_kept: bool) -> bytes:
     """The message (OpenFlow 1.0.0, section 5.3.3) that adds or replaces a rule, or deletes it."""
     command = 0 if is_kept else 4
     body = fake_switch.match_of(rule) + struct.pack(
@@ -110,8 +116,11 @@ def flow_message(rule, is_kept):
     return openflow.message(openflow.FLOW_MOD, 1, body + (fake_switch.actions_of(rule) if is_kept else b""))
 
 
-def at_once(folder, topology, old, new, policy, seed, seconds):
-    def keyed(config):
+def at_once(
+    folder: pathlib.Path, topology: dict[str, Any], old: dict[str, Any], new: dict[str, Any], policy: dict[str, Any],
+    seed: str, seconds: float,
+) -> None:
+    def keyed(config: dict[str, Any]) -> dict[tuple[Any, ...], dict[str, Any]]:
         return {
             (
                 rule["switch"], rule["priority"], rule.get("in_port", "any"), str(rule.get("vlan", "any")), rule["dst"],
@@ -132,7 +141,7 @@ def at_once(folder, topology, old, new, policy, seed, seconds):
     begun = time.monotonic()
     for moment, key in moments:
         time.sleep(max(0.0, begun + moment - time.monotonic()))
-        socks[key[0]].sendall(flow_message(after.get(key, before.get(key)), key in after))
+        socks[key[0]].sendall(flow_message(after[key] if key in after else before[key], key in after))
     print(f"{len(moments)} changes in {time.monotonic() - begun:.2f} s")
     time.sleep(0.2)
 
@@ -142,12 +151,12 @@ def at_once(folder, topology, old, new, policy, seed, seconds):
 class Control:
     """Calls of the daemon that has the bridges."""
 
-    def __init__(self, folder):
+    def __init__(self, folder: pathlib.Path) -> None:
         self.sock = socket.socket(socket.AF_UNIX)
         self.sock.settimeout(60)
         self.sock.connect(f"{folder}/ovs-vswitchd.ctl")
 
-    def call(self, method, *words):
+    def call(self, method: str, *words: str) -> Any:
         self.sock.sendall(json.dumps({"method": method, "params": list(words), "id": 0}).encode())
         data = b""
         while True:
@@ -158,7 +167,7 @@ class Control:
                 pass
 
 
-def frame(number, vlan, address):
+def frame(number: int, vlan: str, address: int) -> bytes:
     """A UDP packet to the address, with its number as content."""
     tag = b"" if vlan == "untagged" else struct.pack("!HH", 0x8100, int(vlan))
     ip = (
@@ -171,7 +180,10 @@ def frame(number, vlan, address):
     ).ljust(60, b"\0")
 
 
-def pour(folder, topology, old, new, policy, sent):
+def pour(
+    folder: pathlib.Path, topology: dict[str, Any], old: dict[str, Any], new: dict[str, Any], policy: dict[str, Any],
+    sent: str,
+) -> None:
     control, chance, going = Control(folder), random.Random(1), [True]
     signal.signal(signal.SIGTERM, lambda *_: going.clear())
     addresses = [number_of(demand["dst"].split("/")[0]) + 5 for demand in policy["demands"]]
@@ -187,7 +199,7 @@ def pour(folder, topology, old, new, policy, sent):
             time.sleep(PAUSE)
 
 
-def recorded(path):
+def recorded(path: pathlib.Path) -> Iterator[tuple[int, int, str]]:
     """What a port recorded: (microseconds, packet number, VLAN)."""
     data, at = path.read_bytes(), 24
     while at + 16 <= len(data):
@@ -201,9 +213,12 @@ def recorded(path):
             ) if is_tagged else "untagged"
 
 
-def ways(folder, topology):
+def ways(
+    folder: pathlib.Path | str, topology: dict[str, Any]
+) -> tuple[dict[int, list[str]], dict[int, tuple[str, str]]]:
     """The ports where each packet came in, in order of time; and where it left, with its VLAN."""
-    found, ends = collections.defaultdict(list), {}
+    found: dict[int, list[tuple[int, str]]] = collections.defaultdict(list)
+    ends: dict[int, tuple[str, str]] = {}
     for end in [*topology["hosts"], *(end for link in topology["links"] for end in link)]:
         path = pathlib.Path(folder, end.replace(":", "_"))
         for moment, number, _ in recorded(path.with_suffix(".rx")):
@@ -213,7 +228,9 @@ def ways(folder, topology):
     return {number: [end for _, end in sorted(stops)] for number, stops in found.items()}, ends
 
 
-def path_under(topology, config, entry, vlan, address):
+def path_under(
+    topology: dict[str, Any], config: dict[str, Any], entry: str, vlan: str, address: int
+) -> tuple[list[str], str | None]:
     """Where a packet comes in under one configuration, and the host port where it leaves, or None."""
     links = {a: b for pair in topology["links"] for a, b in (pair, pair[::-1])}
     stops = [entry]
@@ -230,12 +247,14 @@ def path_under(topology, config, entry, vlan, address):
     return stops, None
 
 
-def is_met(chain, switches):
+def is_met(chain: Sequence[str], switches: Sequence[str]) -> bool:
     rest = iter(switches)
     return all(waypoint in rest for waypoint in chain)
 
 
-def faults(policy, entry, vlan, address, stops, end):
+def faults(
+    policy: dict[str, Any], entry: str, vlan: str, address: int, stops: Sequence[str], end: tuple[str, str] | None
+) -> Iterator[str]:
     """What is broken of a packet with these stops that left at `end`, a port and a VLAN, or None."""
     switches = [stop.split(":")[0] for stop in stops]
     demands = [
@@ -254,9 +273,15 @@ def faults(policy, entry, vlan, address, stops, end):
         yield "left with another VLAN"
 
 
-def judge(folder, topology, old, new, policy, sent, sums):
+def judge(
+    folder: pathlib.Path, topology: dict[str, Any], old: dict[str, Any], new: dict[str, Any], policy: dict[str, Any],
+    sent: str, sums: str,
+) -> None:
     stops, ends = ways(folder, topology)
-    counts, examples, broken, paths = collections.Counter(), {}, 0, {}
+    counts: collections.Counter[str] = collections.Counter()
+    broken = 0
+    examples: dict[str, str] = {}
+    paths: dict[tuple[str, str, int], list[tuple[list[str], str | None]]] = {}
     packets = [json.loads(line) for line in pathlib.Path(sent).read_text(encoding="ascii").splitlines()]
     for number, entry, vlan, address in packets:
         way, end = stops.get(number, []), ends.get(number)
@@ -277,16 +302,18 @@ def judge(folder, topology, old, new, policy, sent, sums):
             f"{' '.join(way[:12])}{' ..' if len(way) > 12 else ''} {'left ' + end[0] if end else 'did not leave'}",
         )
     print(f"{len(packets)} packets sent, {broken} broken")
-    for what, count in counts.most_common():
-        print(f"  {count} {what}" + ("" if what.startswith("took the") else f", as: {examples[what]}"))
+    for words, count in counts.most_common():
+        print(f"  {count} {words}" + ("" if words.startswith("took the") else f", as: {examples[words]}"))
     with open(sums, "a", encoding="ascii") as out:
         print(len(packets), broken, file=out)
 
 
-def main(words):
-    command = {"bridges": bridges, "load": load, "pour": pour, "judge": judge, "at_once": at_once}[words[0]]
+def main(words: Sequence[str]) -> None:
+    commands: dict[str, Callable[..., None]] = {
+        "bridges": bridges, "load": load, "pour": pour, "judge": judge, "at_once": at_once,
+    }
     count = {"bridges": 1, "load": 2}.get(words[0], 4)       # how many of the words behind DIR are files to read
-    command(
+    commands[words[0]](
         words[1], *[json.loads(pathlib.Path(word).read_text(encoding="utf-8")) for word in words[2 : 2 + count]],
         *words[2 + count :],
     )

@@ -27,7 +27,7 @@ ROOT = os.path.dirname(os.path.dirname(os.path.realpath(__file__)))
 LONGEST, LONGEST_IN_TOOLS = 120, 240
 PYFLAKES = ("pyflakes3", "pyflakes")
 # The packages that mypy looks at, and the folders whose scripts it looks at; those of a folder name each other without it.
-TYPED_PACKAGES, TYPED_FOLDERS = ("planner_tools", "planner"), ("bench", "reliability")
+TYPED_PACKAGES, TYPED_FOLDERS = ("planner_tools", "planner"), ("bench", "lab", "reliability")
 SHELLS = ("#!/bin/sh", "#!/usr/bin/env bash", "#!/bin/bash")
 
 
