@@ -120,8 +120,8 @@ def bad_vlan(text: str) -> Any:
 
 
 def bad_hex(text: str) -> str:
-    if re.search("[^0-9a-fA-F]", text):
-        at = re.search("[^0-9a-fA-F]", text)
+    at = re.search("[^0-9a-fA-F]", text)
+    if at:
         return f"{short(at[0])} is no hexadecimal digit (character {at.start() + 1} of the bytes)"
     return (
         "the bytes have an odd number of digits"

@@ -138,7 +138,9 @@ class Shown:
 
 # ---- a plan
 
-def plan_values(plan: dict[str, Any], rules: Sequence[dict[str, Any]], network: Network, wait: float) -> dict[str, Any]:
+def plan_values(
+    plan: dict[str, Any], rules: Sequence[dict[str, Any]] | None, network: Network, wait: float
+) -> dict[str, Any]:
     """A plan as values: round by round the changes, each with what was there before."""
     tables, counts = story.Tables(rules or []), {"insert": 0, "delete": 0, "replace": 0}
     rounds: list[dict[str, Any]] = []
@@ -181,7 +183,9 @@ def change_line(change: dict[str, Any], network: Network, has_priority: bool) ->
     )
 
 
-def plan_lines(name: str, values: dict[str, Any], network: Network, rules: Sequence[dict[str, Any]]) -> list[str]:
+def plan_lines(
+    name: str, values: dict[str, Any], network: Network, rules: Sequence[dict[str, Any]] | None
+) -> list[str]:
     counts, rounds = values["counts"], values["rounds"]
     changes = sum(counts.values())
     priorities = {one["rule"]["priority"] for it in rounds for one in it["changes"]} | {
@@ -302,16 +306,19 @@ def main(words: Sequence[str]) -> int:
         network, name = None, shown.names.shown(shown.files[shown.last])
         if shown.last == "plan":
             plan, rules = shown.plan(), shown.rules()
+            assert plan is not None
             network = shown.network()
             values = plan_values(plan, rules, network, asked.wait)
             lines = plan_lines(name, values, network, rules)
         elif shown.last == "configuration":
             rules = shown.rules()
+            assert rules is not None
             network = shown.network()
             values = configuration_values(rules, network)
             lines = configuration_lines(name, values, network)
         elif shown.last == OTHER:
             rules, others = shown.rules(), shown.rules(OTHER)
+            assert rules is not None and others is not None
             network = shown.network()
             values = entries.values_of(rules, others, network)
             lines = entries.lines_of(shown.names.shown(shown.files["configuration"]), name, values, network)

@@ -52,6 +52,7 @@ class Story:
     def __init__(self, explainer: Explainer) -> None:
         self.network = explainer.network()
         old, new, plan = (explainer.json(word) for word in ("OLD", "NEW", "PLAN"))
+        assert old is not None and new is not None and plan is not None      # the program has read them
         self.old, self.new = nets.plain(old.root)["rules"], nets.plain(new.root)["rules"]
         self.rounds = Changes(nets.plain(plan.root)).rounds
 
@@ -253,6 +254,7 @@ def event_refused(explainer: Explainer, line: str, before: str) -> str:
     if status != 0 or net is None or plan is None:
         return ""
     packets, state = traces(text), re.fullmatch(r"(settled|running) (\d+) of (\d+)", text.splitlines()[-1])
+    assert state is not None
     is_running, number, count = state[1] == "running", int(state[2]), int(state[3])
     changes = Changes(nets.plain(plan.root)).rounds[number - 1] if is_running else []
     made = [int(one.split()[1]) for one in before.rpartition("start\n")[2].splitlines() if one.startswith("change ")]

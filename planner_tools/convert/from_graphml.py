@@ -52,9 +52,11 @@ class Graph:
         keys = {key.get("id"): key.get("attr.name") for key in children(root, "key")}
         self.nodes: dict[str, dict[str, str]] = {}
         for node in children(graph, "node"):
-            if node.get("id") is None or node.get("id") in self.nodes:
-                raise NotConverted(f"{path}: node {node.get('id')!r} has no id, or stands twice")
-            self.nodes[node.get("id")] = values_of(node, keys)
+            name = node.get("id")
+            if name is None or name in self.nodes:
+                raise NotConverted(f"{path}: node {name!r} has no id, or stands twice")
+            self.nodes[name] = values_of(node, keys)
+        self.edges: list[tuple[Any, Any]]
         self.edges = [(edge.get("source"), edge.get("target")) for edge in children(graph, "edge")]
         self.edge_values = [values_of(edge, keys) for edge in children(graph, "edge")]
         unknown = [end for edge in self.edges for end in edge if end not in self.nodes]
@@ -65,7 +67,7 @@ class Graph:
         return self.nodes[node].get("label") or ""
 
 
-def values_of(element: xml.Element, keys: dict[str, str]) -> dict[str, str]:
+def values_of(element: xml.Element, keys: dict[str | None, str | None]) -> dict[Any, str]:
     """What a node or an edge says of itself, by names."""
     return {keys.get(data.get("key"), data.get("key")): (data.text or "").strip() for data in children(element, "data")}
 
