@@ -89,7 +89,8 @@ def share_a_packet(one, other):
 
 
 def plain_run(sizes, packets, start):
-    """The events of a run, each chosen from a list of all that is offered: rounds of these sizes, and so many packets that the first switch drops."""
+    """The events of a run, each chosen from a list of all that is offered: rounds of these sizes, and so many packets
+    that the first switch drops."""
     events, settled, running, pending, born, under_way = [], 0, False, [], [], []
     while running or pending or under_way or settled < len(sizes) or len(born) < packets:
         may_start = not running and settled < len(sizes) and all(born[i] >= settled for i in under_way)
@@ -121,7 +122,8 @@ class LimitTests(unittest.TestCase):
     def look_at_words(self, workload):
         """The files are those that the words name, and a plan that the planner makes."""
         plan = {"plan.json"} if workload.needs_plan() else set()
-        self.assertEqual({f"{name}.json" for name in workload.files} | plan, {word for word in workload.words[1:] if word.endswith(".json")})
+        named = {word for word in workload.words[1:] if word.endswith(".json")}
+        self.assertEqual({f"{name}.json" for name in workload.files} | plan, named)
 
     def look_at_limits(self, files, classes):
         """The counts are within the limits of files."""
@@ -283,14 +285,19 @@ class AnswerTests(unittest.TestCase):
 
     def test_a_simulation_makes_the_named_events(self):
         """The numbers of changes go up and down over powers of 2."""
-        for sizes, packets, start in itertools.product(([1, 1], [2, 2, 2, 2], [7, 7], [8, 8], [9, 9, 9, 9], [100, 100]), (0, 30), (0, 3, 2**64 - 5)):
+        rounds = ([1, 1], [2, 2, 2, 2], [7, 7], [8, 8], [9, 9, 9, 9], [100, 100])
+        for sizes, packets, start in itertools.product(rounds, (0, 30), (0, 3, 2**64 - 5)):
             words = [*workloads.SIMULATE[:-2], str(start), str(packets)]
             workload = workloads.toggled_rules(len(sizes), workloads.ranked_rules(sizes[0], 1), words=words)
             with self.subTest(words=words[-2:], sizes=sizes), tempfile.TemporaryDirectory() as folder:
                 workload.write(pathlib.Path(folder))
-                done = subprocess.run([os.path.abspath(os.environ["PLANNER"]), *words], cwd=folder, capture_output=True, text=True, check=True, timeout=60)
+                done = subprocess.run(
+                    [os.path.abspath(os.environ["PLANNER"]), *words], cwd=folder, capture_output=True, text=True,
+                    check=True, timeout=60,
+                )
                 lines = [line for line in done.stdout.splitlines() if not line.startswith("#")]
-                self.assertEqual(["enter" if line.startswith("enter ") else line for line in lines], plain_run(sizes, packets, start))
+                events = ["enter" if line.startswith("enter ") else line for line in lines]
+                self.assertEqual(events, plain_run(sizes, packets, start))
 
 
 if __name__ == "__main__":

@@ -214,7 +214,8 @@ class Answers(unittest.TestCase):
         self.assertIn(b"/none/planner", done.stderr)
 
     def test_a_fault_of_the_front_end_changes_no_answer(self):
-        done = planner("check", *UPDATE, "plan.json", program=self.stand_in("echo 'refused: 99 Unheard of'\nexit 1"), variables={"PLANNER_TOOLS_TEST": ""})
+        odd = self.stand_in("echo 'refused: 99 Unheard of'\nexit 1")
+        done = planner("check", *UPDATE, "plan.json", program=odd, variables={"PLANNER_TOOLS_TEST": ""})
         self.assertEqual((1, b"refused: 99 Unheard of\n"), (done.returncode, done.stdout))
 
 
