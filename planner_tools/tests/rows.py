@@ -49,9 +49,7 @@ class Row:
 
     def run(self, program, folder, **variables):
         """Runs a program in the folder with the words: its status, its text, and what it says."""
-        variables = {
-            **os.environ, "PATH": os.pathsep.join([ROOT, os.environ.get("PATH", "")]), **variables,
-        }
+        variables = {**os.environ, "PATH": os.pathsep.join([ROOT, os.environ.get("PATH", "")]), **variables}
         done = subprocess.run(
             [program, *self.words], cwd=folder, input=self.input, capture_output=True, timeout=SECONDS, check=False,
             env=variables,

@@ -52,8 +52,8 @@ class Said(unittest.TestCase):
         alone."""
         with tempfile.TemporaryDirectory(dir=self.room.name) as folder:
             row.prepare(folder)
-            is_without = os.environ["PLANNER"] == self.older and row.words[:1] and row.words[0] in WITHOUT
-            planner = self.real if is_without else os.environ["PLANNER"]
+            is_left_out = os.environ["PLANNER"] == self.older and row.words[:1] and row.words[0] in WITHOUT
+            planner = self.real if is_left_out else os.environ["PLANNER"]
             direct = row.run(planner, folder)[:2] if row.words and self.is_plain(row, folder) else None
             return row, row.run(rows.FRONT_END, folder, PLANNER=planner), direct
 
