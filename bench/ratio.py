@@ -9,6 +9,8 @@ turns; the median of each counts. One whose median is below 20 ms runs on, since
 and 15 times at most. A program that takes longer than SECONDS, 300 if nothing is said, is ended. Plans that are read and aren't among
 the files of a workload are made by the second program. It builds nothing, and where the texts or the statuses of the two differ it says so and ends with
 status 1."""
+from __future__ import annotations
+
 import argparse
 import os
 import pathlib
@@ -19,6 +21,12 @@ import sys
 import tempfile
 
 from workloads import PLAN, WORKLOADS
+
+TYPE_CHECKING = False
+if TYPE_CHECKING:
+    import types
+    from typing import Any, Sequence
+    from workloads import Workload
 
 # A program whose median is below so many seconds is run more often, ...
 QUICK = 0.02
@@ -32,12 +40,12 @@ class TooLong(Exception):
     """A program took longer than it may."""
 
 
-def spent(usage):
+def spent(usage: resource.struct_rusage | types.SimpleNamespace) -> float:
     """The seconds of the user and of the system together."""
     return usage.ru_utime + usage.ru_stime
 
 
-def timed(program, words, folder, limit):
+def timed(program: str, words: Sequence[str], folder: str, limit: float) -> tuple[float, int, bytes]:
     """Runs a program, and returns its seconds, its status and its text. Raises TooLong."""
     before = spent(resource.getrusage(resource.RUSAGE_CHILDREN))
     try:
@@ -47,7 +55,7 @@ def timed(program, words, folder, limit):
     return spent(resource.getrusage(resource.RUSAGE_CHILDREN)) - before, done.returncode, done.stdout
 
 
-def prepare(workload, folder, program):
+def prepare(workload: Workload, folder: pathlib.Path, program: str) -> None:
     """Writes the files of a workload, and the plan that the program makes where one is read that isn't among them."""
     workload.write(folder)
     if workload.needs_plan():
@@ -55,22 +63,30 @@ def prepare(workload, folder, program):
         (folder / "plan.json").write_bytes(plan)
 
 
-def is_told(taken, times):
+def is_told(taken: Sequence[float], times: int) -> bool:
     """Whether a program has run often enough, if its runs took these seconds and so many are wanted at least."""
     if len(taken) < max(times, 1):
         return False
     return statistics.median(taken) >= QUICK or sum(taken) > ENOUGH or len(taken) >= MOST
 
 
-def next_turn(turn, taken, times):
-    """Which programs run in a turn, in their order: those that haven't run often enough. They are first by turns. For one that took too long None stands."""
+def next_turn(turn: int, taken: Sequence[Sequence[float] | None], times: int) -> list[int]:
+    """Which programs run in a turn, in their order: those that haven't run often enough. They are first by turns. For
+    one that took too long None stands."""
     order = (0, 1) if turn % 2 == 0 else (1, 0)
-    return [which for which in order if taken[which] is not None and not is_told(taken[which], times)]
+    return [
+        which for which in order for seconds in [taken[which]] if seconds is not None and not is_told(seconds, times)
+    ]
 
 
-def compare(programs, workload, folder, limit, times):
-    """Runs both programs in turns. Returns the median of the seconds of each, None for one that took too long, and whether they answered the same."""
-    taken, answers, turn = [[], []], [None, None], 0
+def compare(
+    programs: Sequence[str], workload: Workload, folder: str, limit: float, times: int
+) -> tuple[list[float | None], bool]:
+    """Runs both programs in turns. Returns the median of the seconds of each, None for one that took too long, and
+    whether they answered the same."""
+    taken: list[Any] = [[], []]      # of each program the seconds, or None where it took too long
+    answers: list[Any] = [None, None]
+    turn = 0
     while due := next_turn(turn, taken, times):
         for which in due:
             try:
@@ -83,14 +99,15 @@ def compare(programs, workload, folder, limit, times):
     return medians, None in medians or answers[0] == answers[1]
 
 
-def row(title, medians):
+def row(title: str, medians: Sequence[float | None]) -> str:
     """The row of the table. There is no ratio to a time that couldn't be measured."""
     cells = ["too long" if it is None else f"{it:.3f}" for it in medians]
-    ratio = "" if None in medians or medians[1] == 0 else f"{medians[0] / medians[1]:.1f}"
+    first, second = medians
+    ratio = f"{first / second:.1f}" if first is not None and second else ""
     return f"| {title} | {cells[0]} | {cells[1]} | {ratio} |"
 
 
-def main():
+def main() -> int:
     parser = argparse.ArgumentParser(description=__doc__, formatter_class=argparse.RawDescriptionHelpFormatter)
     parser.add_argument("-n", type=int, default=7, metavar="TIMES")
     parser.add_argument("-t", type=float, default=300, metavar="SECONDS")

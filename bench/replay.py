@@ -1,6 +1,8 @@
 #!/usr/bin/env python3
-"""Times `replay`: a schedule of a million lines over a ring of 128 switches with a plan of 508 rounds. Packets go round the
-ring one after the other, and then the rounds are made. Prints time and memory; tests nothing."""
+"""Times `replay`: a schedule of a million lines over a ring of 128 switches with a plan of 508 rounds. Packets go round
+the ring one after the other, and then the rounds are made. Prints time and memory; tests nothing."""
+from __future__ import annotations
+
 import json
 import pathlib
 import tempfile
@@ -8,12 +10,18 @@ import tempfile
 import measure
 from rings import Ring
 
+TYPE_CHECKING = False
+if TYPE_CHECKING:
+    from typing import Any
+
 WORDS = ["replay", "topology.json", "old.json", "plan.json", "schedule"]
 
 
-def schedule(ring, rounds, most):
-    """At most so many lines: packets from each switch in turn to destination 0, and then each round with its one change."""
-    lines, packet, switch = [], 0, 1
+def schedule(ring: Ring, rounds: int, most: int) -> Any:
+    """At most so many lines: packets from each switch in turn to destination 0, and then each round with its one
+    change."""
+    lines: list[str] = []
+    packet, switch = 0, 1
     while True:
         hops = (ring.home(0) - switch) % ring.switches + 1
         if len(lines) + 1 + hops + 3 * rounds > most:
@@ -25,7 +33,7 @@ def schedule(ring, rounds, most):
     return "\n".join(lines) + "\n"
 
 
-def main():
+def main() -> None:
     with tempfile.TemporaryDirectory() as name:
         folder = pathlib.Path(name)
         ring = Ring(128, 4)

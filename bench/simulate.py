@@ -1,6 +1,8 @@
 #!/usr/bin/env python3
-"""Times `simulate`: a run of an ordered plan of 508 rounds in a ring of 128 switches, with a thousand packets. Prints time and
-memory; tests nothing."""
+"""Times `simulate`: a run of an ordered plan of 508 rounds in a ring of 128 switches, with a thousand packets. Prints
+time and memory; tests nothing."""
+from __future__ import annotations
+
 import json
 import pathlib
 import tempfile
@@ -11,7 +13,7 @@ from rings import Ring
 WORDS = ["simulate", "topology.json", "old.json", "new.json", "policy.json", "plan.json"]
 
 
-def main():
+def main() -> None:
     with tempfile.TemporaryDirectory() as name:
         folder = pathlib.Path(name)
         ring = Ring(128, 4)

@@ -1,4 +1,5 @@
-"""Tests of the comparison of two programs: how often each runs, and what is said of programs that differ or take too long."""
+"""Tests of the comparison of two programs: how often each runs, and what is said of programs that differ or take too
+long."""
 import pathlib
 import tempfile
 import types

@@ -1,4 +1,5 @@
-"""Tests of the workloads: that they are whole and within the limits of files, and that the shapes are what their titles say."""
+"""Tests of the workloads: that they are whole and within the limits of files, and that the shapes are what their titles
+say."""
 import ipaddress
 import itertools
 import json
@@ -57,7 +58,9 @@ def carried_out(workload):
 def prefixes(files):
     """All prefixes that tell classes apart."""
     plan = files.get("plan", {})
-    lists = [files[name]["rules"] for name in ("config", "old", "new") if name in files] + [files.get("policy", {"demands": []})["demands"]]
+    lists = [files[name]["rules"] for name in ("config", "old", "new") if name in files] + [
+        files.get("policy", {"demands": []})["demands"]
+    ]
     lists += [plan.get("rules", []), *(plan["rounds"] if plan.get("format") == 1 else [])]
     return {item["dst"] for items in lists for item in items}
 
@@ -80,11 +83,14 @@ def share_a_packet(one, other):
     if one["priority"] != other["priority"]:
         return False
     tests = ((one.get(part, "any"), other.get(part, "any")) for part in ("in_port", "vlan"))
-    return all(a == b or "any" in (a, b) for a, b in tests) and ipaddress.ip_network(one["dst"]).overlaps(ipaddress.ip_network(other["dst"]))
+    return all(a == b or "any" in (a, b) for a, b in tests) and ipaddress.ip_network(one["dst"]).overlaps(
+        ipaddress.ip_network(other["dst"])
+    )
 
 
 def plain_run(sizes, packets, start):
-    """The events of a run, each chosen from a list of all that is offered: rounds of these sizes, and so many packets that the first switch drops."""
+    """The events of a run, each chosen from a list of all that is offered: rounds of these sizes, and so many packets
+    that the first switch drops."""
     events, settled, running, pending, born, under_way = [], 0, False, [], [], []
     while running or pending or under_way or settled < len(sizes) or len(born) < packets:
         may_start = not running and settled < len(sizes) and all(born[i] >= settled for i in under_way)
@@ -107,14 +113,17 @@ def plain_run(sizes, packets, start):
 
 
 def clashes(rules):
-    return [(i, j) for (i, one), (j, other) in itertools.combinations(enumerate(rules), 2) if share_a_packet(one, other)]
+    return [
+        (i, j) for (i, one), (j, other) in itertools.combinations(enumerate(rules), 2) if share_a_packet(one, other)
+    ]
 
 
 class LimitTests(unittest.TestCase):
     def look_at_words(self, workload):
         """The files are those that the words name, and a plan that the planner makes."""
         plan = {"plan.json"} if workload.needs_plan() else set()
-        self.assertEqual({f"{name}.json" for name in workload.files} | plan, {word for word in workload.words[1:] if word.endswith(".json")})
+        named = {word for word in workload.words[1:] if word.endswith(".json")}
+        self.assertEqual({f"{name}.json" for name in workload.files} | plan, named)
 
     def look_at_limits(self, files, classes):
         """The counts are within the limits of files."""
@@ -159,7 +168,9 @@ class TableTests(unittest.TestCase):
 
     def test_two_kinds_of_one_priority_cover_no_common_packet(self):
         self.assertEqual({rule["priority"] for rule in KINDS}, {100})
-        self.assertEqual(sorted(("vlan" in rule, "in_port" in rule) for rule in KINDS), [(False, True)] * 20 + [(True, False)] * 20)
+        self.assertEqual(
+            sorted(("vlan" in rule, "in_port" in rule) for rule in KINDS), [(False, True)] * 20 + [(True, False)] * 20
+        )
         self.assertEqual(clashes(KINDS), [])
 
     def test_eight_thousand_rules_of_two_kinds_are_in_range(self):
@@ -201,13 +212,18 @@ class PacketTests(unittest.TestCase):
         self.assertEqual({(rule["priority"], rule["dst"]) for rule in plan["rules"]}, {(100, "0.0.0.0/0")})
         for round_ in plan["rounds"]:
             rules = [plan["rules"][i] for _, i in round_]
-            self.assertEqual({(rule["in_port"], rule["vlan"]) for rule in rules}, set(itertools.product(range(1, 65), range(1, 17))))
+            self.assertEqual(
+                {(rule["in_port"], rule["vlan"]) for rule in rules}, set(itertools.product(range(1, 65), range(1, 17)))
+            )
             self.assertTrue(all(rule["out"] not in (rule["in_port"], "drop") for rule in rules))
 
     def test_two_rules_that_cover_all_packets_come_and_go(self):
         motion = carried_out(workloads.two_below_all(2))
         self.assertEqual([len(tables["s0"]) for tables in motion.tables], [1024, 1026, 1024])
-        self.assertEqual({(change.in_port, change.vlan, change.dst) for round_ in motion.rounds for _, (_, change) in round_}, {(None, None, "0.0.0.0/0")})
+        self.assertEqual(
+            {(change.in_port, change.vlan, change.dst) for round_ in motion.rounds for _, (_, change) in round_},
+            {(None, None, "0.0.0.0/0")},
+        )
 
     def test_many_rules_send_over_the_parallel_links(self):
         plan = values(workloads.parallel_links(2, 62))["plan"]
@@ -261,19 +277,27 @@ class AnswerTests(unittest.TestCase):
         for workload, said in rows:
             with self.subTest(said), tempfile.TemporaryDirectory() as folder:
                 workload.write(pathlib.Path(folder))
-                done = subprocess.run([os.path.abspath(os.environ["PLANNER"]), *workload.words], cwd=folder, capture_output=True, text=True, check=False, timeout=60)
+                done = subprocess.run(
+                    [os.path.abspath(os.environ["PLANNER"]), *workload.words], cwd=folder, capture_output=True,
+                    text=True, check=False, timeout=60,
+                )
                 self.assertEqual(done.stdout, said)
 
     def test_a_simulation_makes_the_named_events(self):
         """The numbers of changes go up and down over powers of 2."""
-        for sizes, packets, start in itertools.product(([1, 1], [2, 2, 2, 2], [7, 7], [8, 8], [9, 9, 9, 9], [100, 100]), (0, 30), (0, 3, 2**64 - 5)):
+        rounds = ([1, 1], [2, 2, 2, 2], [7, 7], [8, 8], [9, 9, 9, 9], [100, 100])
+        for sizes, packets, start in itertools.product(rounds, (0, 30), (0, 3, 2**64 - 5)):
             words = [*workloads.SIMULATE[:-2], str(start), str(packets)]
             workload = workloads.toggled_rules(len(sizes), workloads.ranked_rules(sizes[0], 1), words=words)
             with self.subTest(words=words[-2:], sizes=sizes), tempfile.TemporaryDirectory() as folder:
                 workload.write(pathlib.Path(folder))
-                done = subprocess.run([os.path.abspath(os.environ["PLANNER"]), *words], cwd=folder, capture_output=True, text=True, check=True, timeout=60)
+                done = subprocess.run(
+                    [os.path.abspath(os.environ["PLANNER"]), *words], cwd=folder, capture_output=True, text=True,
+                    check=True, timeout=60,
+                )
                 lines = [line for line in done.stdout.splitlines() if not line.startswith("#")]
-                self.assertEqual(["enter" if line.startswith("enter ") else line for line in lines], plain_run(sizes, packets, start))
+                events = ["enter" if line.startswith("enter ") else line for line in lines]
+                self.assertEqual(events, plain_run(sizes, packets, start))
 
 
 if __name__ == "__main__":

@@ -25,6 +25,8 @@ that is what `planner apply` answers for. PLANNER names another program than the
 
 Exit status: 0 where each fault was told, none broke a packet beside it, and each next step led to the new tables, or those that turn back to the old ones.
 """
+from __future__ import annotations
+
 import argparse
 import contextlib
 import json
@@ -47,6 +49,10 @@ import traffic
 from between import Between
 from planner_tools import program
 
+TYPE_CHECKING = False
+if TYPE_CHECKING:
+    from typing import Any, Callable, Sequence
+
 FRONT_END = HERE.parent / "planner"
 # No run takes longer, in seconds.
 LONGEST = 300
@@ -55,13 +61,16 @@ LONGEST = 300
 class Lab:
     """The bridges of a network with their old tables, under traffic, and one update of them."""
 
-    def __init__(self, folder, stack, wait, chance, make):
+    def __init__(
+        self, folder: pathlib.Path, stack: contextlib.ExitStack, wait: float, chance: random.Random,
+        make: Callable[[Sequence[str]], str],
+    ) -> None:
         self.dir = pathlib.Path(stack.enter_context(tempfile.TemporaryDirectory(prefix="planner-lab-")))
         self.folder, self.wait, self.chance = folder, wait, chance
         self.topology = json.loads((folder / "topology.json").read_text())
         self.names = [one["name"] for one in self.topology["switches"]]
         subprocess.run([HERE / "bridges.sh", "start", self.dir, folder / "topology.json"], check=True)
-        stack.callback(subprocess.run, [HERE / "bridges.sh", "stop", self.dir], check=False)
+        stack.callback(lambda: subprocess.run([HERE / "bridges.sh", "stop", self.dir], check=False))
         traffic.load(self.dir, self.topology, json.loads((folder / "old.json").read_text()))
         self.files = [str(folder / f"{word}.json") for word in ("topology", "old", "new", "policy")]
         plan = self.dir / "plan.json"
@@ -73,34 +82,51 @@ class Lab:
         self.between.start()
         stack.callback(self.between.stop)
         self.listed = self.dir / "through"           # the file of switches, behind the connections that fail
-        self.listed.write_text("".join("%s %s %s:%d\n" % (name, datapath, *self.between.addresses[name]) for name, datapath, _ in lines))
+        self.listed.write_text(
+            "".join("%s %s %s:%d\n" % (name, datapath, *self.between.addresses[name]) for name, datapath, _ in lines)
+        )
         self.record = self.dir / "update"
-        self.said = []
+        self.said: list[str] = []
         self.sent = self.dir / "sent"
-        self.pour = subprocess.Popen([sys.executable, "-B", HERE / "traffic.py", "pour", self.dir, *self.files[:4], self.sent])
+        self.pour = subprocess.Popen(
+            [sys.executable, "-B", HERE / "traffic.py", "pour", self.dir, *self.files[:4], self.sent]
+        )
         stack.callback(self.end_traffic)
-        self.fault_at = None         # the switch at which the fault is
+        self.fault_at = ""           # the switch at which the fault is
         self.led_to = "new"          # to which tables the last run was to lead
         time.sleep(0.5)
 
-    def ofctl(self, *words):
-        subprocess.run(["ovs-ofctl", "-O", "OpenFlow10", words[0], f"unix:{self.dir}/{words[1]}.mgmt", *words[2:]], check=True, timeout=60, capture_output=True)
+    def ofctl(self, *words: str) -> None:
+        subprocess.run(
+            ["ovs-ofctl", "-O", "OpenFlow10", words[0], f"unix:{self.dir}/{words[1]}.mgmt", *words[2:]], check=True,
+            timeout=60, capture_output=True,
+        )
 
-    def vsctl(self, *words):
-        subprocess.run(["ovs-vsctl", f"--db=unix:{self.dir}/db.sock", *words], check=True, timeout=60, capture_output=True)
+    def vsctl(self, *words: str) -> None:
+        subprocess.run(
+            ["ovs-vsctl", f"--db=unix:{self.dir}/db.sock", *words], check=True, timeout=60, capture_output=True
+        )
 
-    def begin(self, *more, record=None, listed=None, before=(), wait=None):
-        words = [*before, sys.executable, "-B", FRONT_END, "apply", *self.files, record or self.record, "--switches", listed or self.listed,
-                 "--wait", wait or self.wait, *more]
-        return subprocess.Popen([str(one) for one in words], stderr=subprocess.PIPE, text=True, env={**os.environ, "PLANNER": program.path()})
+    def begin(
+        self, *more: Any, record: pathlib.Path | None = None, listed: pathlib.Path | None = None,
+        before: Sequence[Any] = (), wait: float | str | None = None,
+    ) -> subprocess.Popen[str]:
+        words = [
+            *before, sys.executable, "-B", FRONT_END, "apply", *self.files, record or self.record, "--switches",
+            listed or self.listed, "--wait", wait or self.wait, *more,
+        ]
+        return subprocess.Popen(
+            [str(one) for one in words], stderr=subprocess.PIPE, text=True,
+            env={**os.environ, "PLANNER": program.path()},
+        )
 
-    def end_of(self, run):
+    def end_of(self, run: subprocess.Popen[str]) -> tuple[int, str]:
         """Its exit status and what it said."""
         said = run.communicate(timeout=LONGEST)[1]
         self.said.append(said)
         return run.returncode, said
 
-    def until(self, words, run=None):
+    def until(self, words: str, run: subprocess.Popen[str] | None = None) -> None:
         """Waits until the record has the words, or the run is at its end."""
         end = time.monotonic() + LONGEST
         while time.monotonic() < end and (run is None or run.poll() is None):
@@ -108,27 +134,32 @@ class Lab:
                 return
             time.sleep(0.005)
 
-    def middle(self):
+    def middle(self) -> str:
         """What the record has from the middle of the update on."""
         return f"round {self.rounds // 2 + 1} starts"
 
-    def go_on(self, said):
+    def go_on(self, said: str) -> tuple[str, int, str]:
         """Does what the last line says is next. What it did, and the end of that."""
         then = said.strip().splitlines()[-1].partition("Next: ")[2]
         shell = re.search(r"`(head -n [^`]*)`", then)
         if shell:
             subprocess.run(["sh", "-c", shell[1]], check=True)
             self.record = pathlib.Path(shlex.split(shell[1])[-1])
-        more = ["--resume"] + (["--repair"] if "--repair" in then else []) + (["--take-over"] if "--take-over" in then else [])
+        more = (
+            ["--resume"]
+            + (["--repair"] if "--repair" in then else [])
+            + (["--take-over"] if "--take-over" in then else [])
+        )
         return f"{'`head`, ' if shell else ''}{' '.join(more)}", *self.end_of(self.begin(*more))
 
-    def turn_back(self):
+    def turn_back(self) -> tuple[str, int, str]:
         """Turns the update back. What it did, and the end of that."""
         self.led_to = "old"
         return "--back", *self.end_of(self.begin("--back"))
 
-    def begin_slowly(self):
-        """A run in whose middle round a switch has been given its messages and isn't heard yet; and that switch. A round without changes is passed over."""
+    def begin_slowly(self) -> tuple[subprocess.Popen[str], str]:
+        """A run in whose middle round a switch has been given its messages and isn't heard yet; and that switch. A
+        round without changes is passed over."""
         plan = json.loads(pathlib.Path(self.files[4]).read_text())
         at = next(at for at in range(self.rounds // 2, self.rounds) if plan["rounds"][at])
         name = plan["rules"][plan["rounds"][at][0][1]]["switch"]
@@ -138,7 +169,7 @@ class Lab:
         time.sleep(0.5)
         return run, name
 
-    def end_traffic(self):
+    def end_traffic(self) -> None:
         if self.pour.poll() is None:
             time.sleep(0.5)
             self.pour.send_signal(signal.SIGTERM)
@@ -149,7 +180,7 @@ class Lab:
                 time.sleep(1)
                 now = sum(it.stat().st_size for it in self.dir.glob("*.rx"))
 
-    def judge(self):
+    def judge(self) -> tuple[int, int, list[str]]:
         """How many packets were sent, broken by the fault, and broken beside it; and an example of these."""
         policy = json.loads((self.folder / "policy.json").read_text())
         stops, ends = traffic.ways(self.dir, self.topology)
@@ -165,9 +196,9 @@ class Lab:
         return len(packets), by_fault, beside
 
 
-def made_by(commands):
+def made_by(commands: Sequence[str]) -> Callable[[Sequence[str]], str]:
     """Returns what makes a plan of an update: the first of these commands that the program has."""
-    def make(files):
+    def make(files: Sequence[str]) -> str:
         for command in commands:
             done = subprocess.run([program.path(), command, *files], capture_output=True, text=True, check=False)
             if done.returncode != 2:
@@ -180,7 +211,7 @@ def made_by(commands):
 
 # ---- the faults: each returns what was told first, what was done next, and the end of that
 
-def two_controllers(lab):
+def two_controllers(lab: Lab) -> tuple[str, str, int, str]:
     first = lab.begin(wait="3")
     lab.until("the switches have the tables of")
     other = lab.dir / "other-switches"
@@ -189,7 +220,7 @@ def two_controllers(lab):
     return told, "the first one goes on", *lab.end_of(first)
 
 
-def emptied_switch(lab):
+def emptied_switch(lab: Lab) -> tuple[str, str, int, str]:
     lab.fault_at = lab.chance.choice(lab.names)
     run = lab.begin()
     lab.until(lab.middle(), run)
@@ -199,7 +230,7 @@ def emptied_switch(lab):
     return told, *lab.go_on(told)
 
 
-def change_by_hand(lab):
+def change_by_hand(lab: Lab) -> tuple[str, str, int, str]:
     lab.fault_at = json.loads((lab.folder / "old.json").read_text())["rules"][0]["switch"]
     run = lab.begin(wait="1.5")
     lab.until("the switches have the tables of", run)
@@ -215,8 +246,8 @@ def change_by_hand(lab):
     return (told, done, status, end) if status == 0 else (told, *lab.go_on(told))
 
 
-def kills(lab):
-    more = []
+def kills(lab: Lab) -> tuple[str, str, int, str]:
+    more: list[str] = []
     for _ in range(6):
         run = lab.begin(*more)
         time.sleep(0.4 + lab.chance.random() * (float(lab.wait) + 0.6))
@@ -227,7 +258,7 @@ def kills(lab):
     return end.splitlines()[0], "--resume, six times", status, end
 
 
-def cuts(lab):
+def cuts(lab: Lab) -> tuple[str, str, int, str]:
     run = lab.begin()
     end = time.monotonic() + LONGEST
     while run.poll() is None and time.monotonic() < end:
@@ -237,13 +268,13 @@ def cuts(lab):
     return told, "it goes on by itself", status, told
 
 
-def late(lab):
+def late(lab: Lab) -> tuple[str, str, int, str]:
     lab.between.delay[lab.chance.choice(lab.names)] = 3.0
     status, told = lab.end_of(lab.begin("--patience", "12"))
     return told, "it goes on by itself", status, told
 
 
-def silent(lab):
+def silent(lab: Lab) -> tuple[str, str, int, str]:
     name = lab.chance.choice(lab.names)
     run = lab.begin("--patience", "3")
     lab.until(lab.middle(), run)
@@ -253,7 +284,7 @@ def silent(lab):
     return told, *lab.go_on(told)
 
 
-def cut_in_mid_round(lab):
+def cut_in_mid_round(lab: Lab) -> tuple[str, str, int, str]:
     run, name = lab.begin_slowly()
     lab.between.cut(name)
     lab.between.delay.clear()
@@ -261,7 +292,7 @@ def cut_in_mid_round(lab):
     return told, "it goes on by itself", status, told
 
 
-def turned_back(lab):
+def turned_back(lab: Lab) -> tuple[str, str, int, str]:
     run, _ = lab.begin_slowly()
     run.send_signal(signal.SIGTERM)
     told = lab.end_of(run)[1]
@@ -269,33 +300,37 @@ def turned_back(lab):
     return told, *lab.turn_back()
 
 
-def turned_at_the_end(lab):
+def turned_at_the_end(lab: Lab) -> tuple[str, str, int, str]:
     told = lab.end_of(lab.begin())[1]
     return told, *lab.turn_back()
 
 
-def fill(lab):
-    """Lets one switch that inserts take one entry alone beyond its old table, and the mark; and carries the plan out. Which switch it is, and the end of that."""
+def fill(lab: Lab) -> tuple[str, int, str]:
+    """Lets one switch that inserts take one entry alone beyond its old table, and the mark; and carries the plan out.
+    Which switch it is, and the end of that."""
     plan = json.loads(pathlib.Path(lab.files[4]).read_text())
     inserts = [plan["rules"][at]["switch"] for one in plan["rounds"] for do, at in one if do == "insert"]
     name = inserts[-1] if inserts else lab.names[0]
     old = sum(rule["switch"] == name for rule in json.loads((lab.folder / "old.json").read_text())["rules"])
-    lab.vsctl("--", "--id=@table", "create", "flow_table", f"flow_limit={old + 1}", "overflow_policy=refuse", "--", "set", "bridge", name, "flow_tables:0=@table")
+    lab.vsctl(
+        "--", "--id=@table", "create", "flow_table", f"flow_limit={old + 1}", "overflow_policy=refuse", "--", "set",
+        "bridge", name, "flow_tables:0=@table",
+    )
     return name, *lab.end_of(lab.begin())
 
 
-def full_table(lab):
+def full_table(lab: Lab) -> tuple[str, str, int, str]:
     name, status, told = fill(lab)
     lab.vsctl("clear", "bridge", name, "flow_tables")
     return (told, *lab.go_on(told)) if status else (told, "no round inserts", status, told)
 
 
-def turned_from_full(lab):
+def turned_from_full(lab: Lab) -> tuple[str, str, int, str]:
     _, status, told = fill(lab)
     return (told, *lab.turn_back()) if status else (told, "no round inserts", status, told)
 
 
-def full_disk(lab):
+def full_disk(lab: Lab) -> tuple[str, str, int, str]:
     run = lab.begin()
     lab.until(lab.middle(), run)
     size = lab.record.stat().st_size
@@ -304,19 +339,24 @@ def full_disk(lab):
     return told, *lab.go_on(told)
 
 
-FAULTS = {"two controllers": two_controllers, "emptied switch": emptied_switch, "change by hand": change_by_hand, "kills": kills, "cuts": cuts, "late": late,
-          "silent": silent, "cut in mid-round": cut_in_mid_round, "full table": full_table, "turned from full": turned_from_full, "full disk": full_disk,
-          "turned back": turned_back, "turned at the end": turned_at_the_end}
+FAULTS = {
+    "two controllers": two_controllers, "emptied switch": emptied_switch, "change by hand": change_by_hand,
+    "kills": kills, "cuts": cuts, "late": late, "silent": silent, "cut in mid-round": cut_in_mid_round,
+    "full table": full_table, "turned from full": turned_from_full, "full disk": full_disk, "turned back": turned_back,
+    "turned at the end": turned_at_the_end,
+}
 
 
-def telling(said):
+def telling(said: str) -> str:
     """The line that tells of the fault."""
     lines = said.strip().splitlines() or ["nothing"]
-    shown = [line for line in lines if line.startswith("stopped: ")] or [line for line in lines if re.search("missing|too much|closed its|no answer", line)]
+    shown = [line for line in lines if line.startswith("stopped: ")] or [
+        line for line in lines if re.search("missing|too much|closed its|no answer", line)
+    ]
     return (shown or lines[-1:])[0].replace("|", "/")
 
 
-def main(words):
+def main(words: Sequence[str]) -> Any:
     parser = argparse.ArgumentParser(description=__doc__, formatter_class=argparse.RawDescriptionHelpFormatter)
     parser.add_argument("folder", metavar="FOLDER", type=pathlib.Path)
     parser.add_argument("--only", metavar="FAULT", choices=FAULTS, action="append")
@@ -325,9 +365,19 @@ def main(words):
     parser.add_argument("--by", metavar="COMMAND")
     parser.add_argument("--plan", metavar="FILE", type=pathlib.Path)
     asked = parser.parse_args(words)
-    make = made_by([asked.by] if asked.by else ["pack", "plan"]) if asked.plan is None else lambda _: asked.plan.read_text()
+    make = (
+        made_by([asked.by] if asked.by else ["pack", "plan"])
+        if asked.plan is None
+        else lambda _: asked.plan.read_text()
+    )
     is_good = True
-    print("| Fault | What is told | Next step | Packets sent | Broken by the fault | Broken beside it |\n|---|---|---|---|---|---|", flush=True)
+    print(
+        (
+            "| Fault | What is told | Next step | Packets sent | Broken by the fault | Broken beside it"
+            " |\n|---|---|---|---|---|---|"
+        ),
+        flush=True,
+    )
     for name, fault in FAULTS.items():
         if asked.only and name not in asked.only:
             continue
@@ -336,7 +386,14 @@ def main(words):
             told, done, status, end = fault(lab)
             lab.end_traffic()
             sent, by_fault, beside = lab.judge()
-        print(f"| {name} | {telling(told)} | {done}: {f'led to the {lab.led_to} tables' if status == 0 else 'FAILED'} | {sent} | {by_fault} | {len(beside)} |", flush=True)
+        print(
+            (
+                f"| {name} | {telling(told)} | {done}:"
+                f" {f'led to the {lab.led_to} tables' if status == 0 else 'FAILED'} | {sent} | {by_fault} |"
+                f" {len(beside)} |"
+            ),
+            flush=True,
+        )
         if beside or status:
             is_good = False
             print("\n".join([*beside[:5], *lab.said]), file=sys.stderr)

@@ -1,6 +1,8 @@
 #!/usr/bin/env python3
-"""Links that take time: slow_links.py DIR TOPOLOGY MILLISECONDS. For each link it waits at the socket DIR/NAME.slow, connects to DIR/NAME.link, and hands
-on what comes from either side after the delay. Until it is ended."""
+"""Links that take time: slow_links.py DIR TOPOLOGY MILLISECONDS. For each link it waits at the socket DIR/NAME.slow,
+connects to DIR/NAME.link, and hands on what comes from either side after the delay. Until it is ended."""
+from __future__ import annotations
+
 import collections
 import json
 import select
@@ -9,10 +11,12 @@ import sys
 import time
 
 
-def main(folder, topology, delay):
+def main(folder: str, topology: str, delay: float) -> None:
     with open(topology, "rb") as file:
         names = [link[0].replace(":", "_") for link in json.load(file)["links"]]
-    servers, others, queue = {}, {}, collections.deque()
+    queue: collections.deque[tuple[float, socket.socket, bytes]] = collections.deque()
+    servers = {}
+    others: dict[socket.socket, socket.socket] = {}
     for name in names:
         server = socket.socket(socket.AF_UNIX)
         server.bind(f"{folder}/{name}.slow")
@@ -33,7 +37,8 @@ def main(folder, topology, delay):
                 else:
                     other = others.pop(sock)
                     others.pop(other, None)
-                    sock.close(), other.close()
+                    sock.close()
+                    other.close()
         while queue and queue[0][0] <= time.monotonic():
             _, sock, data = queue.popleft()
             try:

@@ -1,6 +1,8 @@
-"""Warnings about files that the program takes: members that it passes over, and demands and rules that say less than they seem to. Which class of
-packets goes where, and which one a demand covers, is what `paths` of the program says; it is asked where the files by themselves leave it open whether
-there is something to warn of."""
+"""Warnings about files that the program takes: members that it passes over, and demands and rules that say less than
+they seem to. Which class of packets goes where, and which one a demand covers, is what `paths` of the program says; it
+is asked where the files by themselves leave it open whether there is something to warn of."""
+from __future__ import annotations
+
 import bisect
 import json
 import os
@@ -10,6 +12,15 @@ from planner_tools import program
 from planner_tools.files import NotJson, did_you_mean, member_path, nearest, read_json
 from planner_tools.members import MEMBERS, OF_OTHERS
 
+TYPE_CHECKING = False
+if TYPE_CHECKING:
+    from typing import Any, Iterator, Sequence
+
+    from planner_tools.files import Json, Value
+    from planner_tools.network import Network
+    from planner_tools.proved import Given, Run
+    from planner_tools.report import Asking
+
 # Files longer than this aren't looked at: a plan, and the others.
 LONGEST = {"PLAN": 4 << 20}
 LONGEST_OTHER = 1 << 20
@@ -17,7 +28,10 @@ LONGEST_OTHER = 1 << 20
 MANY = 4096
 # The commands that speak of what packets a policy covers, and the configuration that is looked at.
 JUDGING = {"config": "CONFIG", "plan": "NEW", "check": "NEW", "pack": "NEW", "certify": "NEW"}
-KIND_OF_WORD = {"TOPO": "topology", "CONFIG": "configuration", "OLD": "configuration", "NEW": "configuration", "POLICY": "policy", "PLAN": "plan"}
+KIND_OF_WORD = {
+    "TOPO": "topology", "CONFIG": "configuration", "OLD": "configuration", "NEW": "configuration", "POLICY": "policy",
+    "PLAN": "plan",
+}
 # The members of the objects in the lists of a file.
 INNER = {"topology": {"switches": "switch"}, "configuration": {"rules": "rule"}, "policy": {"demands": "demand"},
          "plan": {"rules": "plan rule", "rounds": "change", "tried": "change"}}
@@ -30,16 +44,19 @@ REMARK, REMARK_BEGINS = "comment", "_"
 
 
 class Caution:
-    """What is told before an answer. A note is no warning: nothing has to be changed. Of several of one kind the first one is told, with the places of the
-    others; one without a kind stands alone."""
+    """What is told before an answer. A note is no warning: nothing has to be changed. Of several of one kind the first
+    one is told, with the places of the others; one without a kind stands alone."""
 
-    def __init__(self, what, more=(), is_warning=True, kind=None, place=""):
+    def __init__(
+        self, what: str, more: Sequence[str] = (), is_warning: bool = True, kind: Any = None, place: str = ""
+    ) -> None:
         self.what, self.more, self.is_warning, self.kind, self.place = what, list(more), is_warning, kind, place
 
 
-def grouped(found):
+def grouped(found: Sequence[Caution]) -> list[Caution]:
     """The first caution of each kind, with how many more there are like it, and where."""
-    first, others = {}, {}
+    first: dict[Any, Caution] = {}
+    others: dict[Any, list[str]] = {}
     for one in found:
         if first.setdefault(one.kind or one, one) is not one:
             others.setdefault(one.kind, []).append(one.place)
@@ -49,19 +66,21 @@ def grouped(found):
     return list(first.values())
 
 
-def cautions(run):
+def cautions(run: Run | Asking) -> list[Caution]:
     """What there is to say about the files of a run."""
     found = []
     for word, file in run.files.items():
         if word in KIND_OF_WORD and size_of(file) <= LONGEST.get(word, LONGEST_OTHER):
             found += member_cautions(KIND_OF_WORD[word], file)
     config = JUDGING.get(run.command.name)
-    if config and all(size_of(run.files[word]) <= LONGEST_OTHER for word in ("TOPO", config, "POLICY") if word in run.files):
+    if config and all(
+        size_of(run.files[word]) <= LONGEST_OTHER for word in ("TOPO", config, "POLICY") if word in run.files
+    ):
         found += coverage_cautions(run, config)
     return grouped(found)
 
 
-def size_of(file):
+def size_of(file: Given) -> int:
     try:
         return os.path.getsize(file.real)
     except OSError:
@@ -70,7 +89,7 @@ def size_of(file):
 
 # ---- members that count for nothing
 
-def member_cautions(kind, file):
+def member_cautions(kind: str, file: Given) -> list[Caution]:
     """Warnings about members that no format knows, and members that stand twice. Remarks are passed over."""
     try:
         with open(file.real, "rb") as source:
@@ -80,13 +99,18 @@ def member_cautions(kind, file):
         text = read_json(file.real, file.shown)
     except (OSError, ValueError, NotJson, RecursionError):
         return []            # the program says what is wrong
-    found = []
+    found: list[Caution] = []
     here = [name for name, _, _ in text.root.held] if text.root.kind == "object" else []
     other = next((one for one, member in OF_OTHERS.items() if member in here and member not in MEMBERS[kind]), None)
     if OF_OTHERS[kind] not in here:
         return []            # the program refuses it for that
     if other:
-        return [Caution(f"{file.shown}: it has `{OF_OTHERS[other]}`, as a {other} has, and is read as a {kind}: are the words in the right order?")]
+        return [
+            Caution(
+                f"{file.shown}: it has `{OF_OTHERS[other]}`, as a {other} has, and is read as a {kind}: are the words"
+                " in the right order?"
+            )
+        ]
     look_at_members(text, text.root, (), MEMBERS[kind], found)
     for list_name, inner in INNER[kind].items():
         for way, item in objects_in(text.root.member(list_name), (list_name,)):
@@ -94,11 +118,13 @@ def member_cautions(kind, file):
     return found
 
 
-def has_odd_member(kind, text):
-    """Whether an object of a file has a member that its format doesn't know, or one that stands twice. ValueError where the text is no JSON."""
-    objects, twice = [], []
+def has_odd_member(kind: str, text: str) -> bool:
+    """Whether an object of a file has a member that its format doesn't know, or one that stands twice. ValueError where
+    the text is no JSON."""
+    objects: list[dict[str, Any]] = []
+    twice: list[dict[str, Any]] = []
 
-    def look(pairs):
+    def look(pairs: Sequence[tuple[str, Any]]) -> dict[str, Any]:
         made = dict(pairs)
         (objects if len(made) == len(pairs) or not has_double(pairs) else twice).append(made)
         return made
@@ -116,19 +142,20 @@ def has_odd_member(kind, text):
     return has_unknown(root, set(MEMBERS[kind]))
 
 
-def has_double(pairs):
+def has_double(pairs: Sequence[tuple[str, bool | str]]) -> bool:
     """Whether a member of an object that is no remark stands twice."""
     names = [name for name, _ in pairs if not is_remark(name)]
     return len(set(names)) < len(names)
 
 
-def has_unknown(item, known):
+def has_unknown(item: dict[str, Any], known: set[str]) -> bool:
     """Whether an object has a member that is neither known nor a remark."""
     return not known.issuperset(item) and not all(name in known or is_remark(name) for name in item)
 
 
-def plain_objects_in(value, most):
-    """The objects in a list, or in lists in it, as `objects_in`; there are so many at most, and it ends behind the last one."""
+def plain_objects_in(value: Sequence[Any] | None, most: int) -> Iterator[dict[str, Any]]:
+    """The objects in a list, or in lists in it, as `objects_in`; there are so many at most, and it ends behind the last
+    one."""
     waiting = [iter(value)] if isinstance(value, list) else []
     while waiting and most > 0:
         for item in waiting[-1]:
@@ -144,7 +171,7 @@ def plain_objects_in(value, most):
             waiting.pop()
 
 
-def objects_in(value, way):
+def objects_in(value: Value | None, way: tuple[int | str, ...]) -> Iterator[tuple[tuple[int | str, ...], Value]]:
     """The objects in a list, or in lists in it, each with the way to it."""
     for number, item in enumerate(value.items() if value is not None else []):
         if item.kind == "object":
@@ -153,24 +180,38 @@ def objects_in(value, way):
             yield from objects_in(item, (*way, number))
 
 
-def is_remark(name):
+def is_remark(name: str) -> bool:
     return name == REMARK or name.startswith(REMARK_BEGINS)
 
 
-def look_at_members(text, item, way, known, found):
-    seen = {}
+def look_at_members(
+    text: Json, item: Value, way: Sequence[int | str], known: Sequence[str], found: list[Caution]
+) -> None:
+    seen: dict[str, int] = {}
     for name, at, value in item.held if item.kind == "object" else []:
         if is_remark(name):
             continue
         path, kind = member_path((*way, name)), (text.path, way[:1], name)
         if name in seen:
-            found.append(Caution(f"{text.where(at)}: {path} stands twice, and only the last one, {text.shown(value)}, counts",
-                                 [f"the first one: line {text.place(seen[name])[0]}, column {text.place(seen[name])[1]}"], kind=("twice", *kind), place=path))
+            found.append(
+                Caution(
+                    f"{text.where(at)}: {path} stands twice, and only the last one, {text.shown(value)}, counts",
+                    [f"the first one: line {text.place(seen[name])[0]}, column {text.place(seen[name])[1]}"],
+                    kind=("twice", *kind), place=path,
+                )
+            )
         elif name not in known:
             here = [one for one, _, _ in item.held]
             guess = nearest(name, [one for one in known if one not in here]) or nearest(name, known)
-            found.append(Caution(f"{text.where(at)}: {path} counts for nothing: no member has this name{f'; did you mean `{guess}`?' if guess else ''}",
-                                 [f"the members are {', '.join(f'`{one}`' for one in known)}"], kind=("unknown", *kind), place=path))
+            found.append(
+                Caution(
+                    (
+                        f"{text.where(at)}: {path} counts for nothing: no member has this"
+                        f" name{f'; did you mean `{guess}`?' if guess else ''}"
+                    ),
+                    [f"the members are {', '.join(f'`{one}`' for one in known)}"], kind=("unknown", *kind), place=path,
+                )
+            )
         seen.setdefault(name, at)
 
 
@@ -182,7 +223,7 @@ class PathLine:
     __slots__ = ("host", "vlan", "address", "stops", "end", "place", "mark")
     ENDS = {"left": 3, "dropped": 2, "again": 2}
 
-    def __init__(self, line):
+    def __init__(self, line: str) -> None:
         name, colon, rest = line.partition(": ")
         self.host, self.vlan, self.address = name.split(" ")
         words = rest.split(" ")
@@ -193,24 +234,26 @@ class PathLine:
             raise ValueError(line)
         self.stops, self.place, self.mark = at, words[at + 1], words[behind]
 
-    def name(self):
+    def name(self) -> str:
         return f"{self.host} {self.vlan} {self.address}"
 
-    def is_dropped(self):
+    def is_dropped(self) -> bool:
         return self.end == "dropped"
 
-    def is_dropped_at_once(self):
+    def is_dropped_at_once(self) -> bool:
         return self.stops == 1 and self.end == "dropped"
 
 
 class Files:
-    """The files of a run about which is warned: as JSON, and where something is said of a member with the places of all of them; each is read once."""
+    """The files of a run about which is warned: as JSON, and where something is said of a member with the places of all
+    of them; each is read once."""
 
-    def __init__(self, run, config):
+    def __init__(self, run: Any, config: str) -> None:
         self.files = {"topology": run.files["TOPO"], "config": run.files[config], "policy": run.files.get("POLICY")}
-        self.plain_ones, self.placed_ones = {}, {}
+        self.plain_ones: dict[str, dict[str, Any] | None] = {}
+        self.placed_ones: dict[str, Json] = {}
 
-    def plain(self, kind):
+    def plain(self, kind: str) -> Any:
         if kind not in self.plain_ones:
             self.plain_ones[kind] = None
             if self.files[kind] is not None:
@@ -218,17 +261,17 @@ class Files:
                     self.plain_ones[kind] = json.load(source)
         return self.plain_ones[kind]
 
-    def placed(self, kind):
+    def placed(self, kind: str) -> Json:
         if kind not in self.placed_ones:
             self.placed_ones[kind] = read_json(self.files[kind].real, self.files[kind].shown)
         return self.placed_ones[kind]
 
-    def where(self, kind, *way):
+    def where(self, kind: str, *way: int | str) -> str:
         text = self.placed(kind)
         return text.where(text.at(way).start)
 
 
-def coverage_cautions(run, config):
+def coverage_cautions(run: Any, config: str) -> list[Caution]:
     """Warnings about demands and rules."""
     from planner_tools.first_tables import free_classes
 
@@ -238,17 +281,24 @@ def coverage_cautions(run, config):
         if free is not None:
             return [free_note(run, config, free, count)] if free else []
         if count >= MANY:
-            run.voice.note(f"the paths of all {count} classes of packets are looked at first, for the warnings; --quiet leaves both out")
+            run.voice.note(
+                f"the paths of all {count} classes of packets are looked at first, for the warnings; --quiet leaves"
+                " both out"
+            )
         return path_cautions(run, config, files)
     except (OSError, ValueError, NotJson, RecursionError):
         return []
 
 
-def path_cautions(run, config, files):
+def path_cautions(run: Any, config: str, files: Files) -> list[Caution]:
     """Warnings by what `paths` says."""
     status, text = run.ask("paths", *(run.files[word].real for word in ("TOPO", config, "POLICY") if word in run.files))
     if status not in (0, 1):
-        return undeclared_cautions(files.placed("policy"), nets.Network(files.placed("topology"))) if status == 2 and "POLICY" in run.files else []
+        return (
+            undeclared_cautions(files.placed("policy"), nets.Network(files.placed("topology")))
+            if status == 2 and "POLICY" in run.files
+            else []
+        )
     *paths, last = text.splitlines()
     lines = [PathLine(line) for line in paths]
     if not last.startswith(f"{len(lines)} classes: "):
@@ -258,43 +308,60 @@ def path_cautions(run, config, files):
     return found + free_cautions(run, lines, config) + unserved_cautions(lines, files, shown)
 
 
-def demands_of(policy):
+def demands_of(policy: Json) -> list[tuple[int, dict[str, Any], str]]:
     """The demands of a policy, as (number, its value, where it stands)."""
     value = policy.root.member("demands")
-    return [(number, nets.plain(one), policy.where(one.start)) for number, one in enumerate(value.items() if value is not None else []) if one.kind == "object"]
+    return [
+        (number, nets.plain(one), policy.where(one.start))
+        for number, one in enumerate(value.items() if value is not None else [])
+        if one.kind == "object"
+    ]
 
 
-def undeclared_cautions(policy, network):
-    return [undeclared(number, demand, where, network) for number, demand, where in demands_of(policy) if is_undeclared(demand, network.vlans)]
+def undeclared_cautions(policy: Json, network: Network) -> list[Caution]:
+    return [
+        undeclared(number, demand, where, network)
+        for number, demand, where in demands_of(policy)
+        if is_undeclared(demand, network.vlans)
+    ]
 
 
-def is_undeclared(demand, vlans):
+def is_undeclared(demand: dict[str, Any], vlans: Sequence[int | str]) -> bool:
     vlan = demand.get("vlan", "any")
     return vlan not in vlans and (vlan == "untagged" or isinstance(vlan, int))
 
 
-def undeclared(number, demand, where, network):
+def undeclared(number: int, demand: dict[str, Any], where: str, network: Network) -> Caution:
     vlan = demand["vlan"]
-    return Caution(f"{where}: demands[{number}] speaks of no packet: {'`untagged`' if vlan == 'untagged' else f'the VLAN {vlan}'} isn't declared"
-                   f"{did_you_mean(vlan, network.vlans)}", [f"the VLANs of {network.json.path} are {', '.join(map(str, network.vlans)) or 'none'}"],
-                   kind=("undeclared", vlan), place=f"demands[{number}]")
+    return Caution(
+        (
+            f"{where}: demands[{number}] speaks of no packet:"
+            f" {'`untagged`' if vlan == 'untagged' else f'the VLAN {vlan}'} isn't"
+            f" declared{did_you_mean(vlan, network.vlans)}"
+        ),
+        [f"the VLANs of {network.json.path} are {', '.join(map(str, network.vlans)) or 'none'}"],
+        kind=("undeclared", vlan), place=f"demands[{number}]",
+    )
 
 
 class Covered:
-    """What `paths` says of the classes of a demand. All entries have the classes of the same addresses, so their classes with a path that isn't dropped
-    are counted together, from each address on."""
+    """What `paths` says of the classes of a demand. All entries have the classes of the same addresses, so their
+    classes with a path that isn't dropped are counted together, from each address on."""
 
-    def __init__(self, lines):
-        self.groups = {}
+    def __init__(self, lines: Sequence[PathLine]) -> None:
+        self.groups: dict[tuple[str, str], list[PathLine]] = {}
         for line in lines:
             self.groups.setdefault((line.host, line.vlan), []).append(line)
         self.addresses = [number_of(line.address) for line in next(iter(self.groups.values()), [])]
-        self.counts = {}
+        self.counts: dict[tuple[str, str], tuple[int, list[int]]] = {}
 
-    def counts_of(self, host, vlan):
-        """Of the entries of a host port and a VLAN, or of any: how many there are, and how many of their classes before each address aren't dropped."""
+    def counts_of(self, host: str, vlan: str) -> tuple[int, list[int]]:
+        """Of the entries of a host port and a VLAN, or of any: how many there are, and how many of their classes before
+        each address aren't dropped."""
         if (host, vlan) not in self.counts:
-            groups = [group for (one, other), group in self.groups.items() if host in ("any", one) and vlan in ("any", other)]
+            groups = [
+                group for (one, other), group in self.groups.items() if host in ("any", one) and vlan in ("any", other)
+            ]
             counts = [0] * (len(self.addresses) + 1)
             for group in groups:
                 for at, line in enumerate(group):
@@ -304,19 +371,21 @@ class Covered:
             self.counts[host, vlan] = len(groups), counts
         return self.counts[host, vlan]
 
-    def of(self, demand):
+    def of(self, demand: dict[str, Any]) -> tuple[int, int]:
         """How many classes a demand covers, and how many of them aren't dropped."""
-        first, length = nets.prefix(demand["dst"])
-        low, high = bisect.bisect_left(self.addresses, first), bisect.bisect_left(self.addresses, first + (1 << 32 - length))
+        first, length = nets.span(demand["dst"])
+        low, high = bisect.bisect_left(self.addresses, first), bisect.bisect_left(
+            self.addresses, first + (1 << 32 - length)
+        )
         groups, counts = self.counts_of(demand.get("from", "any"), str(demand.get("vlan", "any")))
         return groups * (high - low), counts[high] - counts[low]
 
 
-def number_of(address):
+def number_of(address: str) -> int:
     return int.from_bytes(bytes(map(int, address.split("."))), "big")
 
 
-def demand_cautions(files, lines, shown):
+def demand_cautions(files: Files, lines: Sequence[PathLine], shown: str) -> list[Caution]:
     """Warnings about demands that cover no class, or of whose packets none gets anywhere."""
     classes, found, vlans = Covered(lines), [], files.plain("topology")["vlans"]
     for number, demand in enumerate(files.plain("policy")["demands"]):
@@ -327,35 +396,61 @@ def demand_cautions(files, lines, shown):
         if not count and is_undeclared(demand, vlans):
             found.append(undeclared(number, demand, where, nets.Network(files.placed("topology"))))
         elif not count:
-            found.append(Caution(f"{where}: demands[{number}] speaks of no packet: it covers no class of packets", ["the network has no host port or no VLAN"],
-                                 kind="no class", place=f"demands[{number}]"))
+            found.append(
+                Caution(
+                    f"{where}: demands[{number}] speaks of no packet: it covers no class of packets",
+                    ["the network has no host port or no VLAN"], kind="no class", place=f"demands[{number}]",
+                )
+            )
         else:
-            found.append(Caution(f"{where}: demands[{number}] asks for nothing: in {shown} every packet to {demand['dst']} that it speaks of is dropped",
-                                 ["a packet that is dropped meets every demand without `deliver`"], kind="all dropped", place=f"demands[{number}]"))
+            found.append(
+                Caution(
+                    (
+                        f"{where}: demands[{number}] asks for nothing: in {shown} every packet to {demand['dst']} that"
+                        " it speaks of is dropped"
+                    ),
+                    ["a packet that is dropped meets every demand without `deliver`"], kind="all dropped",
+                    place=f"demands[{number}]",
+                )
+            )
     return found
 
 
-def free_cautions(run, lines, config):
+def free_cautions(run: Any, lines: Sequence[PathLine], config: str) -> list[Caution]:
     """How many classes no demand covers, and which."""
     free = [one for one in lines if one.mark == "free"]
     if "POLICY" not in run.files or not free:
         return []
     leaving = [one for one in free if one.end == "left"]
     if leaving:
-        return [Caution(f"{len(leaving)} of {len(lines)} classes of packets leave the network though no demand covers them: {listed(leaving)}", [listing(run, config)])]
+        return [
+            Caution(
+                (
+                    f"{len(leaving)} of {len(lines)} classes of packets leave the network though no demand covers them:"
+                    f" {listed(leaving)}"
+                ),
+                [listing(run, config)],
+            )
+        ]
     return [free_note(run, config, len(free), len(lines))]
 
 
-def free_note(run, config, free, count):
+def free_note(run: Any, config: str, free: int, count: int) -> Caution:
     """What is said where no packet leaves that no demand covers."""
-    return Caution(f"no demand covers {free} of {count} classes of packets, and {run.files[config].shown} lets none of them leave the network", [listing(run, config)], False)
+    return Caution(
+        (
+            f"no demand covers {free} of {count} classes of packets, and {run.files[config].shown} lets none of them"
+            " leave the network"
+        ),
+        [listing(run, config)], False,
+    )
 
 
-def listing(run, config):
+def listing(run: Any, config: str) -> str:
     return f"`{paths_words(run, config)}` lists them: they are marked `free`"
 
 
-def paths_words(run, config):
+def paths_words(run: Any, config: str) -> str:
     """The command that lists the paths of all classes, as it can be typed."""
     found = [run.files[word] for word in ("TOPO", config, "POLICY")]
     if all(one.folder for one in found):
@@ -363,12 +458,15 @@ def paths_words(run, config):
     return f"{program.typed()} paths {' '.join(one.shown for one in found)}"
 
 
-def listed(lines):
-    return ", ".join(one.name() for one in lines[:TOLD]) + (f" and {len(lines) - TOLD} more" if len(lines) > TOLD else "")
+def listed(lines: Sequence[PathLine]) -> str:
+    return ", ".join(one.name() for one in lines[:TOLD]) + (
+        f" and {len(lines) - TOLD} more" if len(lines) > TOLD else ""
+    )
 
 
-def unserved_cautions(lines, files, shown):
-    """Warnings about host ports and VLANs whose packets are all dropped where they enter; of a port also that none leaves there."""
+def unserved_cautions(lines: Sequence[PathLine], files: Files, shown: str) -> list[Caution]:
+    """Warnings about host ports and VLANs whose packets are all dropped where they enter; of a port also that none
+    leaves there."""
     found, dead, topology = [], set(), files.plain("topology")
     ends = {one.place for one in lines if one.end == "left"}
     served = {(one.host, one.vlan) for one in lines if not one.is_dropped_at_once()}
@@ -377,11 +475,26 @@ def unserved_cautions(lines, files, shown):
         if host in known and host not in ends and host not in served_hosts:
             dead.add(host)
             where = files.where("topology", "hosts", number)
-            found.append(Caution(f"{where}: no rule of {shown} serves the host port {host}: every packet that enters there is dropped at once, and none leaves there",
-                                 kind="unserved host", place=host))
+            found.append(
+                Caution(
+                    (
+                        f"{where}: no rule of {shown} serves the host port {host}: every packet that enters there is"
+                        " dropped at once, and none leaves there"
+                    ),
+                    kind="unserved host", place=host,
+                )
+            )
     served_vlans = {vlan for _, vlan in served}
     for number, vlan in enumerate(topology["vlans"]):
         if known - dead and str(vlan) not in served_vlans:
             where = files.where("topology", "vlans", number)
-            found.append(Caution(f"{where}: no rule of {shown} serves packets {nets.vlan_words(vlan)}: each is dropped where it enters", kind="unserved VLAN", place=str(vlan)))
+            found.append(
+                Caution(
+                    (
+                        f"{where}: no rule of {shown} serves packets {nets.vlan_words(vlan)}: each is dropped where it"
+                        " enters"
+                    ),
+                    kind="unserved VLAN", place=str(vlan),
+                )
+            )
     return found

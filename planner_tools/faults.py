@@ -1,35 +1,58 @@
-"""Where a refused file goes wrong. The program says which check fails first: `bad FILE: NUMBER NAME FIELD at PLACE`. Here the checks of docs/FORMATS.md
-are gone through in their order, and the first that bears that name, field and place tells the member, and what would be right. Nothing is refused here.
+"""Where a refused file goes wrong. The program says which check fails first: `bad FILE: NUMBER NAME FIELD at PLACE`.
+Here the checks of docs/FORMATS.md are gone through in their order, and the first that bears that name, field and place
+tells the member, and what would be right. Nothing is refused here. The checks of plans are in plan_faults.py.
 """
+from __future__ import annotations
+
 from planner_tools.files import did_you_mean, member_path, nearest
 from planner_tools.members import MEMBERS, OF_OTHERS
 from planner_tools.network import LAST_PORT, LAST_VLAN, NAME, port_reference, prefix
 
+TYPE_CHECKING = False
+if TYPE_CHECKING:
+    from typing import Any, Iterator, Sequence
+
+    from planner_tools.files import Json, Value
+    from planner_tools.network import Network
+
 PORT_WORDS = "a port is written SWITCH:PORT, as \"s1:2\""
-PREFIX_WORDS = "a prefix is four numbers from 0 to 255 joined by dots, a slash, and a length from 0 to 32, as \"10.0.0.0/24\""
+PREFIX_WORDS = (
+    'a prefix is four numbers from 0 to 255 joined by dots, a slash, and a length from 0 to 32, as "10.0.0.0/24"'
+)
 VLAN_WORDS = f"`untagged`, or an id from 1 to {LAST_VLAN}"
 VLAN_TEST_WORDS = f"`any`, {VLAN_WORDS}"
-KIND_WORDS = {"object": "an object", "list": "a list", "text": "a text", "number": "a number", "truth": "true or false", "null": "null"}
-PLACES_END = 4294967295
+KIND_WORDS = {
+    "object": "an object", "list": "a list", "text": "a text", "number": "a number", "truth": "true or false",
+    "null": "null",
+}
 
 
 class Fault:
-    """A failed check: its name, field and place as the program prints them, the way to the value at fault, what is wrong with it, what would be right,
-    further values that have a part in it, each with words for it, and more lines on it."""
+    """A failed check: its name, field and place as the program prints them, the way to the value at fault, what is
+    wrong with it, what would be right, further values that have a part in it, each with words for it, and more lines on
+    it."""
 
-    def __init__(self, name, field, place, way, what, right="", others=(), more=()):
-        self.name, self.field, self.place, self.way, self.what, self.right, self.others, self.more = name, field, place, way, what, right, others, list(more)
+    def __init__(
+        self, name: str, field: str, place: int, way: Sequence[int | str], what: str, right: str = "",
+        others: Sequence[tuple[tuple[int | str, ...], str]] = (), more: Sequence[str] = (),
+    ) -> None:
+        self.name, self.field, self.place, self.way, self.what, self.right, self.others, self.more = (
+            name, field, place, way, what, right, others, list(more),
+        )
 
 
-def faults_of(kind, json, network):
+def faults_of(kind: str, json: Json, network: Network | None) -> Iterator[Fault]:
     """All faults of a file, in the order of the checks, for a kind of file as the program names it."""
     if json.root.kind != "object":
-        yield Fault("Shape", "top", 0, (), f"the file holds {KIND_WORDS[json.root.kind]}, and it has to be an object", "{ .. }")
+        yield Fault(
+            "Shape", "top", 0, (), f"the file holds {KIND_WORDS[json.root.kind]}, and it has to be an object", "{ .. }"
+        )
     elif kind == "topology":
         yield from Topology(json).faults()
     elif kind == "policy":
         yield from Policy(json, network).faults()
     elif kind == "plan":
+        from planner_tools.plan_faults import Plan
         yield from Plan(json, network).faults()
     else:
         yield from Configuration(json, network).faults()
@@ -38,10 +61,10 @@ def faults_of(kind, json, network):
 class Checks:
     """What the checks of all formats share."""
 
-    def __init__(self, json, network):
+    def __init__(self, json: Json, network: Network | None) -> None:
         self.json, self.network = json, network
 
-    def list_at(self, name, known):
+    def list_at(self, name: str, known: Sequence[str]) -> tuple[list[Value] | None, Fault | None]:
         """The items of a list of the top value, and the fault where there is none."""
         value = self.json.root.member(name)
         if value is None:
@@ -50,7 +73,7 @@ class Checks:
             return None, Fault("Shape", name, 0, (name,), "it has to be a list", "[ .. ]")
         return value.held, None
 
-    def missing(self, way, name, field, place, known):
+    def missing(self, way: Sequence[int | str], name: str, field: str, place: int, known: Sequence[str]) -> Fault:
         """The fault that a member isn't there."""
         held = self.json.at(way)
         here = [one for one, _, _ in held.held] if held.kind == "object" else []
@@ -62,7 +85,10 @@ class Checks:
             what += f": the file looks like a {other}; are the words in the right order?"
         return Fault("Shape", field, place, way, what, known_words(name, known))
 
-    def of_kind(self, item, way, place, name, kinds, right, known, default=False):
+    def of_kind(
+        self, item: Value, way: Sequence[int | str], place: int, name: str, kinds: Sequence[str], right: str,
+        known: Sequence[str], default: bool = False,
+    ) -> Fault | None:
         """The fault of a member that has to be of one of some kinds, or None."""
         value = item.member(name)
         if value is None:
@@ -71,31 +97,39 @@ class Checks:
             return None
         return Fault("Shape", name, place, (*way, name), kind_fault(value, kinds), right)
 
-    def switch_fault(self, name, place, way):
+    def switch_fault(self, name: str, place: int, way: Sequence[int | str]) -> Fault:
         before = name.rpartition(":")[0]
-        guess = f"; did you mean `{before}`?" if before in self.switch_names() else did_you_mean(name, self.switch_names())
+        guess = (
+            f"; did you mean `{before}`?" if before in self.switch_names() else did_you_mean(name, self.switch_names())
+        )
         return Fault("UnknownSwitch", "", place, way, f"no switch is named `{name}`{guess}", self.names_words())
 
-    def switch_names(self):
+    def switch_names(self) -> list[str]:
         return [one for one in self.network.names if one is not None]
 
-    def names_words(self):
+    def names_words(self) -> str:
         names = self.switch_names()
-        return "the switches are " + ", ".join(names[:8]) + (f" and {len(names) - 8} more" if len(names) > 8 else "") if names else "the topology has no switch"
+        return (
+            "the switches are " + ", ".join(names[:8]) + (f" and {len(names) - 8} more" if len(names) > 8 else "")
+            if names
+            else "the topology has no switch"
+        )
 
 
-def known_words(name, known):
-    return "the members are " + ", ".join(f"`{one}`" for one in known) if len(known) > 1 else f"`{name}` is the one member"
+def known_words(name: str, known: Sequence[str]) -> str:
+    return (
+        "the members are " + ", ".join(f"`{one}`" for one in known) if len(known) > 1 else f"`{name}` is the one member"
+    )
 
 
-def fits(value, kind):
+def fits(value: Value, kind: str) -> bool:
     """Whether a value is of a kind: a text, a list, a truth value, a whole number, or just this word."""
     if kind == "whole":
         return value.whole() is not None
     return value.kind == kind if kind in KIND_WORDS else value.kind == "text" and value.held == kind
 
 
-def kind_fault(value, kinds):
+def kind_fault(value: Value, kinds: Sequence[str]) -> str:
     """What is wrong with a value that is of none of some kinds."""
     words = [kind for kind in kinds if kind not in KIND_WORDS and kind != "whole"]
     if value.kind == "number":
@@ -109,30 +143,39 @@ def kind_fault(value, kinds):
     return f"it is {KIND_WORDS[value.kind]}"
 
 
-def vlan_fault(value, place, way, right):
+def vlan_fault(value: Value, place: int, way: Sequence[int | str], right: str) -> Fault | None:
     """The fault of a VLAN whose kind is right, or None."""
     number = value.whole()
-    return Fault("BadVlan", "", place, way, f"a VLAN id is 1 to {LAST_VLAN}", right) if number is not None and not 1 <= number <= LAST_VLAN else None
+    return (
+        Fault("BadVlan", "", place, way, f"a VLAN id is 1 to {LAST_VLAN}", right)
+        if number is not None and not 1 <= number <= LAST_VLAN
+        else None
+    )
 
 
 class Topology(Checks):
-    def __init__(self, json):
+    def __init__(self, json: Json) -> None:
         super().__init__(json, None)
-        self.names, self.used = {}, {}
-        self.count = {}
+        self.names: dict[str, int] = {}
+        self.used: dict[tuple[str, int], Any] = {}
+        self.count: dict[str, int] = {}
 
-    def switch_names(self):
+    def switch_names(self) -> list[str]:
         return list(self.names)
 
-    def names_words(self):
+    def names_words(self) -> str:
         names = self.switch_names()
-        return "the switches are " + ", ".join(names[:8]) + (f" and {len(names) - 8} more" if len(names) > 8 else "") if names else "the topology has no switch"
+        return (
+            "the switches are " + ", ".join(names[:8]) + (f" and {len(names) - 8} more" if len(names) > 8 else "")
+            if names
+            else "the topology has no switch"
+        )
 
-    def faults(self):
+    def faults(self) -> Iterator[Fault]:
         for part in (self.switches, self.links, self.hosts, self.vlans, self.tags):
             yield from part()
 
-    def switches(self):
+    def switches(self) -> Iterator[Fault]:
         items, fault = self.list_at("switches", MEMBERS["topology"])
         if fault:
             yield fault
@@ -142,7 +185,10 @@ class Topology(Checks):
             if number == 128:
                 yield Fault("TooMany", "switches", number, way, "it is the 129th switch", "at most 128 switches")
             if item.kind != "object":
-                yield Fault("Shape", "switches", number, way, f"it is {KIND_WORDS[item.kind]}", "an object with `name` and `capacity`")
+                yield Fault(
+                    "Shape", "switches", number, way, f"it is {KIND_WORDS[item.kind]}",
+                    "an object with `name` and `capacity`",
+                )
                 continue
             bad = self.of_kind(item, way, number, "name", ["text"], 'a text, as "s1"', MEMBERS["switch"])
             if bad:
@@ -150,18 +196,28 @@ class Topology(Checks):
             else:
                 name = item.member("name").held
                 if not NAME.fullmatch(name):
-                    yield Fault("BadName", "", number, (*way, "name"), "it is no name of a switch", "1 to 32 ASCII letters, digits, `-` and `_`")
+                    yield Fault(
+                        "BadName", "", number, (*way, "name"), "it is no name of a switch",
+                        "1 to 32 ASCII letters, digits, `-` and `_`",
+                    )
                 elif name in self.names:
-                    yield Fault("DoubleName", "", number, (*way, "name"), "an earlier switch has this name", "another name",
-                                [(("switches", self.names[name], "name"), "the earlier one")])
+                    yield Fault(
+                        "DoubleName", "", number, (*way, "name"), "an earlier switch has this name", "another name",
+                        [(("switches", self.names[name], "name"), "the earlier one")],
+                    )
                 self.names.setdefault(name, number)
-            bad = self.of_kind(item, way, number, "capacity", ["whole"], "a whole number from 1 to 8192", MEMBERS["switch"])
+            bad = self.of_kind(
+                item, way, number, "capacity", ["whole"], "a whole number from 1 to 8192", MEMBERS["switch"]
+            )
             if bad:
                 yield bad
             elif not 1 <= item.member("capacity").whole() <= 8192:
-                yield Fault("BadCapacity", "", number, (*way, "capacity"), "a switch holds from 1 to 8192 rules", "a whole number from 1 to 8192")
+                yield Fault(
+                    "BadCapacity", "", number, (*way, "capacity"), "a switch holds from 1 to 8192 rules",
+                    "a whole number from 1 to 8192",
+                )
 
-    def links(self):
+    def links(self) -> Iterator[Fault]:
         items, fault = self.list_at("links", MEMBERS["topology"])
         if fault:
             yield fault
@@ -169,12 +225,14 @@ class Topology(Checks):
         for number, item in enumerate(items):
             way = ("links", number)
             if item.kind != "list" or len(item.held) != 2 or any(one.kind != "text" for one in item.held):
-                yield Fault("Shape", "links", number, way, "a link is a list of its two ends, both texts", '["s1:2", "s2:1"]')
+                yield Fault(
+                    "Shape", "links", number, way, "a link is a list of its two ends, both texts", '["s1:2", "s2:1"]'
+                )
                 continue
             for end, value in enumerate(item.held):
                 yield from self.port(value.held, "links", number, (*way, end))
 
-    def hosts(self):
+    def hosts(self) -> Iterator[Fault]:
         items, fault = self.list_at("hosts", MEMBERS["topology"])
         if fault:
             yield fault
@@ -186,7 +244,7 @@ class Topology(Checks):
                 continue
             yield from self.port(item.held, "hosts", number, way)
 
-    def port(self, text, field, place, way):
+    def port(self, text: str, field: str, place: int, way: Sequence[int | str]) -> Iterator[Fault]:
         """The faults of a port reference, which is used from here on."""
         found = port_reference(text)
         if found is None:
@@ -198,36 +256,49 @@ class Topology(Checks):
         if not 1 <= port <= LAST_PORT:
             yield Fault("BadPort", "", place, way, f"a port number is 1 to {LAST_PORT}", PORT_WORDS)
         if (name, port) in self.used:
-            yield Fault("PortTwice", "", place, way, "the port is used already", "each port of a switch is the end of one link or one host port",
-                        [(self.used[name, port], "the other use")])
+            yield Fault(
+                "PortTwice", "", place, way, "the port is used already",
+                "each port of a switch is the end of one link or one host port",
+                [(self.used[name, port], "the other use")],
+            )
         else:
             self.used[name, port] = way
             self.count[name] = self.count.get(name, 0) + 1
             if self.count[name] == 65:
-                yield Fault("TooMany", field, place, way, f"it is the 65th used port of {name}", "at most 64 used ports a switch")
+                yield Fault(
+                    "TooMany", field, place, way, f"it is the 65th used port of {name}",
+                    "at most 64 used ports a switch",
+                )
 
-    def vlans(self):
+    def vlans(self) -> Iterator[Fault]:
         items, fault = self.list_at("vlans", MEMBERS["topology"])
         if fault:
             yield fault
             return
-        seen = {}
+        seen: dict[Any, Any] = {}
         for number, item in enumerate(items):
             way = ("vlans", number)
             if number == 64:
                 yield Fault("TooMany", "vlans", number, way, "it is the 65th VLAN", "at most 64 VLANs")
             if not any(fits(item, kind) for kind in ("whole", "untagged")):
-                guess = "; is it `untagged` that is meant?" if item.kind == "text" and nearest(item.held, ["untagged"]) else ""
+                guess = (
+                    "; is it `untagged` that is meant?"
+                    if item.kind == "text" and nearest(item.held, ["untagged"])
+                    else ""
+                )
                 yield Fault("Shape", "vlans", number, way, f"it is no VLAN{guess}", VLAN_WORDS)
                 continue
             bad = vlan_fault(item, number, way, VLAN_WORDS)
             if bad:
                 yield bad
             elif item.held in seen:
-                yield Fault("VlanTwice", "", number, way, "the VLAN was declared before", "each VLAN once", [(("vlans", seen[item.held]), "the first time")])
+                yield Fault(
+                    "VlanTwice", "", number, way, "the VLAN was declared before", "each VLAN once",
+                    [(("vlans", seen[item.held]), "the first time")],
+                )
             seen.setdefault(item.held, number)
 
-    def tags(self):
+    def tags(self) -> Iterator[Fault]:
         items, fault = self.list_at("tags", MEMBERS["topology"])
         right = "[], or the first and the last id of a range, as [3000, 3009]"
         if fault:
@@ -246,7 +317,7 @@ class Topology(Checks):
 class Rules(Checks):
     """The checks of a rule, of a configuration or of a plan."""
 
-    def rule(self, item, way, place, known):
+    def rule(self, item: Value, way: Sequence[int | str], place: int, known: Sequence[str]) -> Iterator[Fault]:
         bad = self.of_kind(item, way, place, "switch", ["text"], 'the name of a switch, as "s1"', known)
         if bad:
             yield bad
@@ -255,19 +326,22 @@ class Rules(Checks):
 
 
 class Configuration(Rules):
-    def faults(self):
+    def faults(self) -> Iterator[Fault]:
         known = MEMBERS["rule"]
         items, fault = self.list_at("rules", MEMBERS["configuration"])
         if fault:
             yield fault
             return
-        seen = {}
+        seen: dict[Any, Any] = {}
         for number, item in enumerate(items):
             way = ("rules", number)
             if number == 2048:
                 yield Fault("TooMany", "", number, way, "it is the 2049th rule", "at most 2048 rules")
             if item.kind != "object":
-                yield Fault("Shape", "rules", number, way, f"it is {KIND_WORDS[item.kind]}", "an object, with the members " + ", ".join(f"`{one}`" for one in known))
+                yield Fault(
+                    "Shape", "rules", number, way, f"it is {KIND_WORDS[item.kind]}",
+                    "an object, with the members " + ", ".join(f"`{one}`" for one in known),
+                )
                 continue
             yield from self.rule(item, way, number, known)
             yield from self.parts(item, way, number, known)
@@ -276,18 +350,29 @@ class Configuration(Rules):
             mine = sorted(rule for (switch, _), rules in seen.items() if switch == name for rule, _ in rules)
             capacity = self.network.capacities[number]
             if capacity is not None and len(mine) > capacity:
-                net, way = self.network.json, ("switches", number, "capacity")
-                yield Fault("OverCapacity", "", number, ("rules", mine[capacity]), f"it is one too many: there are {len(mine)} rules for {name}, which can hold {capacity}",
-                            f"fewer rules for {name}, or its true capacity", more=[f"{net.where(net.at(way).start)}: {member_path(way)} is {net.shown(net.at(way))}"])
+                net, place = self.network.json, ("switches", number, "capacity")
+                yield Fault(
+                    "OverCapacity", "", number, ("rules", mine[capacity]),
+                    f"it is one too many: there are {len(mine)} rules for {name}, which can hold {capacity}",
+                    f"fewer rules for {name}, or its true capacity",
+                    more=[f"{net.where(net.at(place).start)}: {member_path(place)} is {net.shown(net.at(place))}"],
+                )
 
-    def parts(self, item, way, number, known):
+    def parts(self, item: Value, way: Sequence[int | str], number: int, known: Sequence[str]) -> Iterator[Fault]:
         bad = self.of_kind(item, way, number, "priority", ["whole"], "a whole number from 1 to 16383", known)
         if bad:
             yield bad
         elif not 1 <= item.member("priority").whole() <= 16383:
-            yield Fault("BadPriority", "", number, (*way, "priority"), "a priority is 1 to 16383; those above are the planner's own", "a whole number from 1 to 16383",
-                        more=["32768 is the priority that `ovs-ofctl add-flow` takes where none is given"] if item.member("priority").whole() == 32768 else [])
-        bad = self.of_kind(item, way, number, "in_port", ["whole", "any"], "the number of a port, or `any`", known, True)
+            yield Fault(
+                "BadPriority", "", number, (*way, "priority"),
+                "a priority is 1 to 16383; those above are the planner's own", "a whole number from 1 to 16383",
+                more=["32768 is the priority that `ovs-ofctl add-flow` takes where none is given"]
+                if item.member("priority").whole() == 32768
+                else [],
+            )
+        bad = self.of_kind(
+            item, way, number, "in_port", ["whole", "any"], "the number of a port, or `any`", known, True
+        )
         yield from [bad] if bad else self.port(item, way, number, "in_port")
         bad = self.of_kind(item, way, number, "vlan", ["whole", "untagged", "any"], VLAN_TEST_WORDS, known, True)
         yield from [bad] if bad else self.vlan(item, way, number)
@@ -295,16 +380,19 @@ class Configuration(Rules):
         bad = self.of_kind(item, way, number, "out", ["whole", "drop"], "the number of a port, or `drop`", known)
         yield from [bad] if bad else self.port(item, way, number, "out")
 
-    def port(self, item, way, number, name):
+    def port(self, item: Value, way: Sequence[int | str], number: int, name: str) -> Iterator[Fault]:
         value, switch = item.member(name), item.member("switch")
         port = value.whole() if value is not None else None
         if port is not None and switch is not None and switch.kind == "text":
             ports = self.network.ports.get(switch.held, set())
             if port not in ports:
                 have = ", ".join(map(str, sorted(ports))) or "none"
-                yield Fault("BadPort", "", number, (*way, name), f"no link and no host is at port {port} of {switch.held}", f"the ports of {switch.held} are {have}")
+                yield Fault(
+                    "BadPort", "", number, (*way, name), f"no link and no host is at port {port} of {switch.held}",
+                    f"the ports of {switch.held} are {have}",
+                )
 
-    def vlan(self, item, way, number):
+    def vlan(self, item: Value, way: Sequence[int | str], number: int) -> Iterator[Fault]:
         value = item.member("vlan")
         if value is None:
             return
@@ -313,17 +401,22 @@ class Configuration(Rules):
             yield bad
         elif value.whole() in self.network.available_tags():
             tags = self.network.tags
-            yield Fault("ReservedVlan", "", number, (*way, "vlan"), f"the id is one of the tags {tags[0]} to {tags[-1]} that the planner may use",
-                        "an id outside of `tags` of the topology, or declared in its `vlans`")
+            yield Fault(
+                "ReservedVlan", "", number, (*way, "vlan"),
+                f"the id is one of the tags {tags[0]} to {tags[-1]} that the planner may use",
+                "an id outside of `tags` of the topology, or declared in its `vlans`",
+            )
 
-    def prefix(self, item, way, number, known):
+    def prefix(self, item: Value, way: Sequence[int | str], number: int, known: Sequence[str]) -> Iterator[Fault]:
         bad = self.of_kind(item, way, number, "dst", ["text"], PREFIX_WORDS, known)
         if bad:
             yield bad
         elif prefix(item.member("dst").held) is None:
             yield Fault("BadPrefix", "", number, (*way, "dst"), *prefix_words(item.member("dst").held))
 
-    def compared(self, item, way, number, seen):
+    def compared(
+        self, item: Value, way: Sequence[int | str], number: int, seen: dict[tuple[str, int], Any]
+    ) -> Iterator[Fault]:
         """The faults of a rule beside the earlier ones of its switch."""
         parts = rule_parts(item)
         if parts is None:
@@ -332,29 +425,50 @@ class Configuration(Rules):
         earlier = seen.setdefault((switch, priority), [])
         for other, other_match in earlier:
             if match == other_match:
-                yield Fault("KeyTwice", "", number, way, f"an earlier rule of {switch} has the same priority and the same match", "one rule for them",
-                            [(("rules", other), "the earlier rule")])
+                yield Fault(
+                    "KeyTwice", "", number, way,
+                    f"an earlier rule of {switch} has the same priority and the same match", "one rule for them",
+                    [(("rules", other), "the earlier rule")],
+                )
                 break
         for other, other_match in earlier:
             if match != other_match and overlap(match, other_match):
-                yield Fault("Overlap", "", number, way, f"an earlier rule of {switch} has the same priority {priority}, and some packet matches both: "
-                            "OpenFlow leaves open which one counts", "different priorities, the greater one for the rule that is to win",
-                            [(("rules", other), "the earlier rule")])
+                yield Fault(
+                    "Overlap", "", number, way,
+                    (
+                        f"an earlier rule of {switch} has the same priority {priority}, and some packet matches both: "
+                        "OpenFlow leaves open which one counts"
+                    ),
+                    "different priorities, the greater one for the rule that is to win",
+                    [(("rules", other), "the earlier rule")],
+                )
                 break
         earlier.append((number, match))
 
 
-def rule_parts(item):
+def rule_parts(item: Value) -> Any:
     """The switch, the priority and the match of a rule of a configuration, or None where they can't be told."""
     switch, priority, dst = item.member("switch"), item.member("priority"), item.member("dst")
     in_port, vlan = item.member("in_port"), item.member("vlan")
-    is_whole = all(one is not None and one.kind not in ("object", "list") for one in (switch, priority, dst)) and dst.kind == "text"
-    if not is_whole or prefix(dst.held) is None or any(one is not None and one.kind in ("object", "list") for one in (in_port, vlan)):
+    is_whole = (
+        all(one is not None and one.kind not in ("object", "list") for one in (switch, priority, dst))
+        and dst.kind == "text"
+    )
+    if (
+        not is_whole
+        or prefix(dst.held) is None
+        or any(one is not None and one.kind in ("object", "list") for one in (in_port, vlan))
+    ):
         return None
-    return switch.held, priority.held, ("any" if in_port is None else in_port.held, "any" if vlan is None else vlan.held, prefix(dst.held))
+    return (
+        switch.held, priority.held,
+        ("any" if in_port is None else in_port.held, "any" if vlan is None else vlan.held, prefix(dst.held)),
+    )
 
 
-def overlap(one, other):
+def overlap(
+    one: tuple[int | str, int | str, tuple[int, int]], other: tuple[int | str, int | str, tuple[int, int]]
+) -> bool:
     """Whether some packet matches both."""
     same = all("any" in (a, b) or a == b for a, b in zip(one[:2], other[:2]))
     (first, length), (first_2, length_2) = one[2], other[2]
@@ -362,7 +476,7 @@ def overlap(one, other):
     return same and (not short or first >> 32 - short == first_2 >> 32 - short)
 
 
-def prefix_words(text):
+def prefix_words(text: str) -> tuple[str, str]:
     """What is wrong with a text that is no prefix, and what would be right."""
     from planner_tools.network import PREFIX, address
 
@@ -378,7 +492,7 @@ def prefix_words(text):
 
 
 class Policy(Checks):
-    def faults(self):
+    def faults(self) -> Iterator[Fault]:
         known = MEMBERS["demand"]
         items, fault = self.list_at("demands", MEMBERS["policy"])
         if fault:
@@ -389,11 +503,18 @@ class Policy(Checks):
             if number == 512:
                 yield Fault("TooMany", "demands", number, way, "it is the 513th demand", "at most 512 demands")
             if item.kind != "object":
-                yield Fault("Shape", "demands", number, way, f"it is {KIND_WORDS[item.kind]}", "an object, with the members " + ", ".join(f"`{one}`" for one in known))
+                yield Fault(
+                    "Shape", "demands", number, way, f"it is {KIND_WORDS[item.kind]}",
+                    "an object, with the members " + ", ".join(f"`{one}`" for one in known),
+                )
                 continue
             yield from self.source(item, way, number, known)
             bad = self.of_kind(item, way, number, "vlan", ["whole", "untagged", "any"], VLAN_TEST_WORDS, known, True)
-            bad = bad or (vlan_fault(item.member("vlan"), number, (*way, "vlan"), VLAN_TEST_WORDS) if item.member("vlan") is not None else None)
+            bad = bad or (
+                vlan_fault(item.member("vlan"), number, (*way, "vlan"), VLAN_TEST_WORDS)
+                if item.member("vlan") is not None
+                else None
+            )
             yield from [bad] if bad else []
             bad = self.of_kind(item, way, number, "dst", ["text"], PREFIX_WORDS, known)
             if bad:
@@ -404,7 +525,7 @@ class Policy(Checks):
             bad = self.of_kind(item, way, number, "deliver", ["truth"], "true or false, without quotes", known, True)
             yield from [bad] if bad else []
 
-    def source(self, item, way, number, known):
+    def source(self, item: Value, way: Sequence[int | str], number: int, known: Sequence[str]) -> Iterator[Fault]:
         bad = self.of_kind(item, way, number, "from", ["text"], f"a host port, or `any`: {PORT_WORDS}", known, True)
         value = item.member("from")
         if bad or value is None or value.held == "any":
@@ -413,17 +534,28 @@ class Policy(Checks):
         way = (*way, "from")
         found = port_reference(value.held)
         if found is None:
-            yield Fault("Shape", "from", number, way, f"it is no port of a switch{did_you_mean(value.held, ['any', *self.network.hosts])}", PORT_WORDS)
+            yield Fault(
+                "Shape", "from", number, way,
+                f"it is no port of a switch{did_you_mean(value.held, ['any', *self.network.hosts])}", PORT_WORDS,
+            )
         elif found[0] not in self.network.numbers:
             yield self.switch_fault(found[0], number, way)
         elif value.held not in self.network.hosts:
             name = found[0]
             here = [one for one in self.network.hosts if one.rpartition(":")[0] == name]
-            yield Fault("NotHost", "", number, way, f"it is no host port{f': a link to {self.network.peers[value.held]} is there' if value.held in self.network.peers else ''}",
-                        f"the host ports of {name} are {', '.join(here)}" if here else f"{name} has no host port; the host ports are {', '.join(self.network.hosts[:8])}")
+            peer = self.network.peers.get(value.held)
+            yield Fault(
+                "NotHost", "", number, way,
+                f"it is no host port{f': a link to {peer} is there' if peer is not None else ''}",
+                f"the host ports of {name} are {', '.join(here)}"
+                if here
+                else f"{name} has no host port; the host ports are {', '.join(self.network.hosts[:8])}",
+            )
 
-    def through(self, item, way, number, known):
-        bad = self.of_kind(item, way, number, "through", ["list"], 'a list of names of switches, as ["s2", "s3"]', known, True)
+    def through(self, item: Value, way: Sequence[int | str], number: int, known: Sequence[str]) -> Iterator[Fault]:
+        bad = self.of_kind(
+            item, way, number, "through", ["list"], 'a list of names of switches, as ["s2", "s3"]', known, True
+        )
         value = item.member("through")
         if bad or value is None:
             yield from [bad] if bad else []
@@ -431,199 +563,11 @@ class Policy(Checks):
         way = (*way, "through")
         for at, one in enumerate(value.held):
             if one.kind != "text":
-                yield Fault("Shape", "through", number, (*way, at), f"it is {KIND_WORDS[one.kind]}", "the name of a switch")
+                yield Fault(
+                    "Shape", "through", number, (*way, at), f"it is {KIND_WORDS[one.kind]}", "the name of a switch"
+                )
         if len(value.held) > 16:
             yield Fault("TooMany", "through", number, way, f"it has {len(value.held)} names", "at most 16 names")
         for at, one in enumerate(value.held):
             if one.kind == "text" and one.held not in self.network.numbers:
                 yield self.switch_fault(one.held, number, (*way, at))
-
-
-class Plan(Rules):
-    def faults(self):
-        root = self.json.root
-        known = MEMBERS["plan"]
-        bad = self.of_kind(root, (), 0, "format", ["whole"], "1 or 2", known)
-        if bad:
-            yield bad
-            return
-        self.format = root.member("format").whole()
-        if self.format not in (1, 2):
-            yield Fault("BadFormat", "", 0, ("format",), "the formats of plans are 1 and 2", "2")
-            return
-        bad = self.of_kind(root, (), 0, "kind", ["ordered", "two-phase"], "`ordered` or `two-phase`", known)
-        if bad:
-            yield bad
-            return
-        self.kind, self.change = root.member("kind").held, 0
-        if self.format == 2:
-            yield from self.plan_rules(known)
-        yield from self.rounds("rounds", known)
-        yield from self.ordered(known) if self.kind == "ordered" else self.two_phase(known)
-
-    def plan_rules(self, known):
-        items, fault = self.list_at("rules", known)
-        if fault:
-            yield fault
-            return
-        for number, item in enumerate(items):
-            way = ("rules", number)
-            if item.kind != "object":
-                yield Fault("Shape", "rules", number, way, f"it is {KIND_WORDS[item.kind]}", "an object: a rule")
-                continue
-            yield from self.plan_rule(item, way, number, MEMBERS["plan rule"])
-
-    def plan_rule(self, item, way, place, known):
-        place = min(place, PLACES_END)
-        yield from self.rule(item, way, place, known)
-        for name, kinds, right, default in (
-                ("priority", ["whole"], "a whole number from 1 to 65535", False), ("in_port", ["whole", "any"], "the number of a port, or `any`", True),
-                ("vlan", ["whole", "untagged", "any"], VLAN_TEST_WORDS, True), ("dst", ["text"], PREFIX_WORDS, False),
-                ("out", ["whole", "drop"], "the number of a port, or `drop`", False), ("set", ["whole"], f"a VLAN id from 1 to {LAST_VLAN}", True)):
-            bad = self.of_kind(item, way, place, name, kinds, right, known, default)
-            if bad:
-                yield bad
-        strip = item.member("strip")
-        if strip is not None and strip.held is not True:
-            yield Fault("Shape", "strip", place, (*way, "strip"), "it isn't true", "true, or no member `strip`")
-        yield from self.ranges(item, way, place)
-
-    def ranges(self, item, way, place):
-        """Where a part of a rule is out of its range."""
-        for name, last, what in (("priority", 65535, "a priority"), ("in_port", LAST_PORT, "a port number"), ("vlan", LAST_VLAN, "a VLAN id"),
-                                 ("out", LAST_PORT, "a port number"), ("set", LAST_VLAN, "a VLAN id")):
-            value = item.member(name)
-            number = value.whole() if value is not None else None
-            if number is not None and not 1 <= number <= last:
-                yield Fault("BadRule", "", place, (*way, name), f"{what} is 1 to {last}", f"a whole number from 1 to {last}")
-        dst, out = item.member("dst"), item.member("out")
-        if dst is not None and dst.kind == "text" and prefix(dst.held) is None:
-            yield Fault("BadRule", "", place, (*way, "dst"), *prefix_words(dst.held))
-        rewrites = [name for name in ("set", "strip") if item.member(name) is not None]
-        if len(rewrites) == 2:
-            yield Fault("BadRule", "", place, way, "both `set` and `strip` are there", "one of them")
-        elif rewrites and out is not None and out.held == "drop":
-            yield Fault("BadRule", "", place, (*way, rewrites[0]), f"`{rewrites[0]}` stands beside `drop`", "a rule that drops rewrites nothing")
-
-    def rounds(self, name, known):
-        items, fault = self.list_at(name, known)
-        most = 4200 if name == "rounds" else 4096
-        if fault:
-            yield fault
-            return
-        if len(items) > most:
-            yield Fault("TooMany", name, 0, (name,), f"it has {len(items)} rounds", f"at most {most} rounds")
-        rules = self.json.root.member("rules")
-        count = len(rules.items()) if rules is not None else 0
-        for number, round_ in enumerate(items):
-            if round_.kind != "list":
-                yield Fault("Shape", name, number, (name, number), f"a round is a list of changes, and this is {KIND_WORDS[round_.kind]}", "[ .. ]")
-                continue
-            for at, change in enumerate(round_.held):
-                yield from self.one_change(change, (name, number, at), name, count)
-                self.change += 1
-
-    def one_change(self, change, way, name, count):
-        place = min(self.change, PLACES_END)
-        if self.format == 1:
-            if change.kind != "object":
-                yield Fault("Shape", name, place, way, f"a change is an object, and this is {KIND_WORDS[change.kind]}", "an object with `do` and the members of a rule")
-                return
-            bad = self.of_kind(change, way, place, "do", ["insert", "delete", "replace"], "`insert`, `delete` or `replace`", MEMBERS["change"])
-            if bad:
-                yield bad
-            yield from self.plan_rule(change, way, place, MEMBERS["change"])
-            return
-        parts = change.items()
-        if len(parts) != 2 or parts[0].kind != "text" or parts[0].held not in ("insert", "delete", "replace") or parts[1].whole() is None:
-            guess = did_you_mean(parts[0].held, ["insert", "delete", "replace"]) if parts and parts[0].kind == "text" and parts[0].held not in ("insert", "delete", "replace") else ""
-            yield Fault("Shape", name, place, way, f"it is no pair of a word and the number of a rule{guess}", '["insert", 0], with `insert`, `delete` or `replace`')
-        elif parts[1].whole() >= count:
-            yield Fault("BadIndex", "", place, (*way, 1), f"no rule has the number {parts[1].whole()}", f"`rules` has {count} rules, numbered from 0")
-
-    def ordered(self, known):
-        switches = len(self.network.names)
-        numberings = yield from self.table("numberings", known, lambda one: one.kind == "list" and len(one.held) == switches
-                                           and all((it.whole() or 0) <= 65535 and it.whole() is not None for it in one.held),
-                                           f"a list of {switches} whole numbers from 0 to 65535, one a switch")
-        befores = yield from self.table("befores", known, lambda one: one.kind == "list" and all(it.whole() is not None for it in one.held), "a list of numbers of switches")
-        for number, one in enumerate(befores):
-            numbers = [it.whole() for it in one.items()]
-            if None not in numbers and (any(it >= switches for it in numbers) or any(a >= b for a, b in zip(numbers, numbers[1:]))):
-                yield Fault("BadIndex", "", number, ("befores", number), "a number is that of no switch, or they don't ascend", f"ascending numbers of switches, 0 to {switches - 1}")
-        sizes = {"numberings": len(numberings), "befores": len(befores)}
-        if self.format == 2:
-            uses = yield from self.table("uses", known, lambda one: is_pair_with_list(one), "the number of a numbering, and a list of numbers of before sets")
-            for number, one in enumerate(uses):
-                if is_pair_with_list(one) and (one.held[0].whole() >= sizes["numberings"] or any(it.whole() >= sizes["befores"] for it in one.held[1].held)):
-                    yield Fault("BadIndex", "", number, ("uses", number), "a number is that of no numbering or of no before set",
-                                f"`numberings` has {sizes['numberings']} items and `befores` {sizes['befores']}, numbered from 0")
-            sizes["uses"] = len(uses)
-        yield from self.picks(known, sizes)
-
-    def picks(self, known, sizes):
-        length = {"ordered": 4 if self.format == 1 else 3, "two-phase": 2}[self.kind]
-        right = {4: "a round, a class, the number of a numbering, and a list of numbers of before sets", 3: "a round, a class, and the number of a use",
-                 2: "a round, and the number of a label table"}[length]
-        picks = yield from self.table("picks", known, lambda one: one.kind == "list" and len(one.held) == length and all(it.whole() is not None for it in one.held[:3])
-                                      and (length < 4 or one.held[3].kind == "list" and all(it.whole() is not None for it in one.held[3].held)), right)
-        rounds = self.json.root.member("rounds")
-        rounds = len(rounds.items()) if rounds is not None else 0
-        last = None
-        for number, one in enumerate(picks):
-            numbers = [it.whole() for it in one.items()]
-            if len(numbers) != length or None in numbers[:3]:
-                continue
-            what = index_fault(numbers, one, length, rounds, sizes)
-            key = tuple(numbers[:1] if length == 2 else numbers[:2])
-            if what is None and last is not None and key <= last:
-                what = "the picks don't ascend by round" + ("" if length == 2 else " and then class")
-            if what:
-                yield Fault("BadIndex", "", number, ("picks", number), what, right)
-            last = key
-
-    def table(self, name, known, is_good, right):
-        """The items of a list of evidence; the faults of those that aren't of the right form come first."""
-        items, fault = self.list_at(name, known)
-        if fault:
-            yield fault
-            return []
-        for number, one in enumerate(items):
-            if not is_good(one):
-                yield Fault("Shape", name, number, (name, number), "it isn't of the right form", right)
-        return items
-
-    def two_phase(self, known):
-        right = "lists of [VLAN, `old` or `new`, the user's VLAN], the VLANs ascending, untagged first"
-        labels = yield from self.table("labels", known, lambda one: one.kind == "list" and all(is_label(it) for it in one.held), right)
-        for number, one in enumerate(labels):
-            vlans = [-1 if it.held[0].held == "untagged" else it.held[0].whole() for it in one.items() if is_label(it)]
-            if any(a >= b for a, b in zip(vlans, vlans[1:])):
-                yield Fault("BadIndex", "", number, ("labels", number), "the VLANs don't ascend", right)
-        yield from self.picks(known, {"labels": len(labels)})
-        yield from self.rounds("tried", known)
-
-
-def is_pair_with_list(one):
-    return (one.kind == "list" and len(one.held) == 2 and one.held[0].whole() is not None and one.held[1].kind == "list"
-            and all(it.whole() is not None for it in one.held[1].held))
-
-
-def is_label(one):
-    def is_vlan(it):
-        return it.whole() is not None or it.held == "untagged"
-    return one.kind == "list" and len(one.held) == 3 and is_vlan(one.held[0]) and one.held[1].held in ("old", "new") and is_vlan(one.held[2])
-
-
-def index_fault(numbers, one, length, rounds, sizes):
-    """What is wrong with the numbers of a pick, or None."""
-    if not 1 <= numbers[0] <= rounds:
-        return f"no round has the number {numbers[0]}: they are 1 to {rounds}"
-    if length > 2 and numbers[1] > 8191:
-        return f"the class {numbers[1]} is above 8191"
-    name, number = {4: ("numberings", 2), 3: ("uses", 2), 2: ("labels", 1)}[length]
-    if numbers[number] >= sizes.get(name, 0):
-        return f"`{name}` has no item {numbers[number]}: they are numbered from 0, and there are {sizes.get(name, 0)}"
-    if length == 4 and any(it.whole() >= sizes["befores"] for it in one.held[3].held):
-        return f"`befores` has no such item: they are numbered from 0, and there are {sizes['befores']}"
-    return None

@@ -1,4 +1,6 @@
 """The manual page and the completion, made of the words of the planner."""
+from __future__ import annotations
+
 import re
 import textwrap
 
@@ -19,7 +21,7 @@ docs/planner.bash, which completes these words in bash
 """
 
 
-def escaped(text):
+def escaped(text: str) -> str:
     """Returns a text as troff takes it, on lines of the page's width: code stands in bold."""
     lines = textwrap.wrap(text, 150, break_on_hyphens=False)
     plain = "\n".join(lines).replace("\\", "\\e").replace("-", "\\-")
@@ -27,15 +29,21 @@ def escaped(text):
     return re.sub(r"(?m)^([.'])", r"\\&\1", plain)
 
 
-def usage_line(command):
+def usage_line(command: words.Command) -> str:
     """Returns the words behind a command: names in italics, options in bold."""
-    parts = [re.sub(r"([^\[\]]+)", r"\\fI\1\\fP" if not word.strip("[]").startswith("-") else r"\\fB\1\\fP", word) for word in command.usage.split()]
+    parts = [
+        re.sub(r"([^\[\]]+)", r"\\fI\1\\fP" if not word.strip("[]").startswith("-") else r"\\fB\1\\fP", word)
+        for word in command.usage.split()
+    ]
     return " ".join(part.replace("-", "\\-") for part in parts)
 
 
-def manual():
+def manual() -> str:
     """Returns the manual page of all commands."""
-    lines = ['.TH PLANNER 1 "" "" "User commands"', ".SH NAME", "planner \\- plan and check updates of OpenFlow 1.0 networks", ".SH SYNOPSIS"]
+    lines = [
+        '.TH PLANNER 1 "" "" "User commands"', ".SH NAME",
+        "planner \\- plan and check updates of OpenFlow 1.0 networks", ".SH SYNOPSIS",
+    ]
     for at, command in enumerate(words.COMMANDS):
         lines += [".br"] if at else []
         lines += [f"\\fBplanner {command.name}\\fP {usage_line(command)}".replace("from-", "from\\-")]
@@ -56,27 +64,33 @@ def manual():
     return "\n".join(lines) + "\n.SH EXAMPLES\n" + EXAMPLES + ".SH SEE ALSO\n" + SEE_ALSO
 
 
-def entry(command):
+def entry(command: words.Command) -> list[str]:
     return [".TP", f"\\fB{command.name}\\fP {usage_line(command)}".replace("from-", "from\\-"), escaped(command.text)]
 
 
-def flags_of(name):
+def flags_of(name: str) -> str:
     """The options of a command that it alone has, or few others."""
     return " ".join(flag.split()[0] for flag, _ in words.OWN_OPTIONS[name])
 
 
-def completion():
+def completion() -> str:
     """Returns the script that completes the words in bash."""
-    counts = {}
+    counts: dict[int, list[str]] = {}
     for command in words.COMMANDS:
         files = [word for word in command.words()[0] if word in words.FILES]
         counts.setdefault(len(files), []).append(command.name)
-    cases = "".join(f"        {' | '.join(names)}) files={count} ;;\n" for count, names in sorted(counts.items()) if count)
+    cases = "".join(
+        f"        {' | '.join(names)}) files={count} ;;\n" for count, names in sorted(counts.items()) if count
+    )
     options = " ".join(flag.split()[0] for flag, _ in words.OPTIONS if flag != "--version")
     names = " ".join([*(command.name for command in words.COMMANDS), "--help", "--version"])
     own = "".join(f'            {name}) options="{flags_of(name)} $options" ;;\n' for name in words.OWN_OPTIONS)
-    chosen = "".join(f'        {command.name}) choices="{" ".join(words.CHOICES[word])}" ;;\n' for command in words.COMMANDS for word in command.words()[0]
-                     if word in words.CHOICES)
+    chosen = "".join(
+        f'        {command.name}) choices="{" ".join(words.CHOICES[word])}" ;;\n'
+        for command in words.COMMANDS
+        for word in command.words()[0]
+        if word in words.CHOICES
+    )
     return f"""# Completes the words of the planner in bash:  . docs/planner.bash
 
 _planner() {{
@@ -111,13 +125,18 @@ complete -o default -F _planner planner ./planner
 """
 
 
-def table():
+def table() -> str:
     """Returns the table of the README: what people want, and the commands for it."""
-    rows = "".join(f"| {wish} | {', '.join(f'`{name}`' for name in names if name in words.BY_NAME)} |\n" for wish, names in words.WISHES)
+    rows = "".join(
+        f"| {wish} | {', '.join(f'`{name}`' for name in names if name in words.BY_NAME)} |\n"
+        for wish, names in words.WISHES
+    )
     return f"| You want | Commands |\n|---|---|\n{rows}"
 
 
-def long_table():
+def long_table() -> str:
     """Returns the table of all commands, with their words and answers."""
-    rows = "".join(f"| `planner {f'{command.name} {command.usage}'.strip()}` | {command.answer} |\n" for command in words.COMMANDS)
+    rows = "".join(
+        f"| `planner {f'{command.name} {command.usage}'.strip()}` | {command.answer} |\n" for command in words.COMMANDS
+    )
     return f"| Command | Answer |\n|---|---|\n{rows}"

@@ -1,19 +1,30 @@
-"""A network, its rules and its demands as the files have them, in words. What is read here was read by the program before, or is judged by it next."""
+"""A network, its rules and its demands as the files have them, in words. What is read here was read by the program
+before, or is judged by it next."""
+from __future__ import annotations
+
 import re
 
+TYPE_CHECKING = False
+if TYPE_CHECKING:
+    from typing import Any
+
+    from planner_tools.files import Json, Value
+
 PORT = re.compile(r"0|[1-9][0-9]{0,4}")
-PREFIX = re.compile(r"(0|[1-9][0-9]{0,2})\.(0|[1-9][0-9]{0,2})\.(0|[1-9][0-9]{0,2})\.(0|[1-9][0-9]{0,2})/(0|[1-9][0-9]?)")
+PREFIX = re.compile(
+    r"(0|[1-9][0-9]{0,2})\.(0|[1-9][0-9]{0,2})\.(0|[1-9][0-9]{0,2})\.(0|[1-9][0-9]{0,2})/(0|[1-9][0-9]?)"
+)
 NAME = re.compile(r"[A-Za-z0-9_-]{1,32}")
 LAST_PORT, LAST_VLAN = 65279, 4094
 
 
-def port_reference(text):
+def port_reference(text: str) -> tuple[str, int] | None:
     """The switch and the port number of a port reference, or None where the text is none."""
     name, colon, port = text.rpartition(":")
     return (name, int(port)) if colon and PORT.fullmatch(port) else None
 
 
-def prefix(text):
+def prefix(text: str) -> tuple[int, int] | None:
     """The first address and the length of a prefix, or None where the text is none."""
     found = PREFIX.fullmatch(text)
     if not found:
@@ -25,13 +36,20 @@ def prefix(text):
     return (first, length) if first & ((1 << 32 - length) - 1) == 0 else None
 
 
-def address(number):
+def span(text: str) -> tuple[int, int]:
+    """The first address and the length of a text that is a prefix."""
+    found = prefix(text)
+    assert found is not None
+    return found
+
+
+def address(number: int) -> str:
     return ".".join(str(one) for one in number.to_bytes(4, "big"))
 
 
-def covers(text, other):
+def covers(text: str, other: str) -> bool:
     """Whether a prefix covers an address that is given as text."""
-    first, length = prefix(text)
+    first, length = span(text)
     parts = bytes(map(int, other.split(".")))
     return (int.from_bytes(parts, "big") ^ first) >> (32 - length) == 0 if length else True
 
@@ -39,9 +57,12 @@ def covers(text, other):
 class Network:
     """A topology that was read."""
 
-    def __init__(self, json):
+    def __init__(self, json: Json) -> None:
         self.json, root = json, json.root
-        self.names, self.capacities, self.peers, self.ports = [], [], {}, {}
+        self.names = []
+        self.capacities = []
+        self.peers = {}
+        self.ports: dict[str, set[int]] = {}
         for one in self.items(root, "switches"):
             name, capacity = one.member("name"), one.member("capacity")
             self.names.append(name.held if name is not None and name.kind == "text" else None)
@@ -57,19 +78,19 @@ class Network:
             if found:
                 self.ports.setdefault(found[0], set()).add(found[1])
         self.vlans = [one.held for one in self.items(root, "vlans")]
-        tags = [one.whole() for one in self.items(root, "tags")]
-        self.tags = range(tags[0], tags[1] + 1) if len(tags) == 2 and None not in tags else range(0)
+        tags = [tag for one in self.items(root, "tags") for tag in [one.whole()] if tag is not None]
+        self.tags = range(tags[0], tags[1] + 1) if len(tags) == len(self.items(root, "tags")) == 2 else range(0)
 
     @staticmethod
-    def items(root, name):
+    def items(root: Value, name: str) -> list[Value]:
         value = root.member(name)
         return value.items() if value is not None else []
 
-    def available_tags(self):
+    def available_tags(self) -> list[int]:
         """The ids of the tag range that are no declared VLAN."""
         return [tag for tag in self.tags if tag not in self.vlans]
 
-    def to(self, switch, port):
+    def to(self, switch: str, port: int) -> str:
         """Words for where a port leads."""
         end = f"{switch}:{port}"
         if end in self.peers:
@@ -77,11 +98,12 @@ class Network:
         return f"the host at {end}" if end in self.hosts else f"port {port}, which nothing is known to be behind"
 
 
-# What is said of a rule whose output is the port that the packet came in by: OpenFlow 1.0 sends nothing back by an ordinary output.
+# What is said of a rule whose output is the port that the packet came in by: OpenFlow 1.0 sends nothing back by an
+# ordinary output.
 BACK = "its output is the port it came in by"
 
 
-def match_words(rule):
+def match_words(rule: dict[str, Any]) -> str:
     """What a rule matches, in words: the prefix, and the ingress port and the VLAN where they count."""
     words = rule["dst"]
     if rule.get("in_port", "any") != "any":
@@ -90,11 +112,11 @@ def match_words(rule):
     return words + ("" if vlan == "any" else f" {vlan_words(vlan)}")
 
 
-def vlan_words(vlan):
+def vlan_words(vlan: int | str) -> str:
     return "untagged" if vlan == "untagged" else f"with VLAN {vlan}"
 
 
-def action_words(rule, network):
+def action_words(rule: dict[str, Any], network: Network) -> str:
     """What a rule does, in words."""
     words = "is dropped" if rule["out"] == "drop" else f"to {network.to(rule['switch'], rule['out'])}"
     if rule.get("strip"):
@@ -102,13 +124,16 @@ def action_words(rule, network):
     return words + (f", tagged {rule['set']}" if "set" in rule else "")
 
 
-def target_words(rule, network):
+def target_words(rule: dict[str, Any], network: Network) -> str:
     """What a rule did, in words: where it sent, or that it dropped."""
     return action_words(rule, network).removeprefix("to ").replace("is dropped", "dropped")
 
 
-def change_words(do, rule, before, network, has_priority=True):
-    """A change in words, as `10.0.0.0/24 to s4 (port 4), was s2 (port 2)`; `before` is the entry that was there, or None where it isn't known."""
+def change_words(
+    do: str, rule: dict[str, Any], before: dict[str, Any] | None, network: Network, has_priority: bool = True
+) -> str:
+    """A change in words, as `10.0.0.0/24 to s4 (port 4), was s2 (port 2)`; `before` is the entry that was there, or
+    None where it isn't known."""
     words = match_words(rule) + (f", priority {rule['priority']}," if has_priority else "")
     if do == "insert":
         return f"{words} {action_words(rule, network)}, new"
@@ -116,7 +141,7 @@ def change_words(do, rule, before, network, has_priority=True):
     return f"{words} deleted{was}" if do == "delete" else f"{words} {action_words(rule, network)}{was}"
 
 
-def plain(value):
+def plain(value: Value) -> Any:
     """A value of files.py as Python's own. Of members with one name the last counts."""
     if value.kind == "object":
         return {name: plain(one) for name, _, one in value.held}

@@ -1,10 +1,20 @@
-"""One run of a proved command: the files that its words name, warnings before it, its text and status, which are handed on as they are, and what is
-said beside them."""
+"""One run of a proved command: the files that its words name, warnings before it, its text and status, which are handed
+on as they are, and what is said beside them."""
+from __future__ import annotations
+
 import os
 import sys
 
 from planner_tools import program, words
 from planner_tools.voice import Voice
+
+TYPE_CHECKING = False
+if TYPE_CHECKING:
+    from typing import Any, Callable, IO, Sequence
+
+    from planner_tools.cautions import Caution
+    from planner_tools.costs import Costs
+    from planner_tools.main import Options
 
 # So much of the text is kept for what is said of it.
 KEPT = 4 << 20
@@ -15,15 +25,15 @@ TWICE = "`-` stands twice among the words, and the standard input can be read on
 
 
 class How:
-    """How a person wants runs of the program: quiet, where only refusals are told; strict, where warnings end them; or with the warnings about their files
-    said already, by `look`."""
+    """How a person wants runs of the program: quiet, where only refusals are told; strict, where warnings end them; or
+    with the warnings about their files said already, by `look`."""
 
     output, wait = None, None
 
-    def __init__(self, is_quiet=False, is_strict=False, is_warned=False):
+    def __init__(self, is_quiet: bool = False, is_strict: bool = False, is_warned: bool = False) -> None:
         self.is_quiet, self.is_strict, self.is_warned = is_quiet, is_strict, is_warned
 
-    def behind_warnings(self):
+    def behind_warnings(self) -> How:
         """The same for runs over files whose warnings were said."""
         return How(self.is_quiet, self.is_strict, True)
 
@@ -31,20 +41,22 @@ class How:
 REFUSALS = How(is_quiet=True)
 
 
-def answer_for(how, *given, good=(0,)):
+def answer_for(how: How, *given: Given | str, good: Sequence[int] = (0,)) -> tuple[int, str]:
     """Runs the program for a person, of whose answer more is to be made. Returns its status and its text."""
     run = Run([one if isinstance(one, Given) else str(one) for one in given], how)
     run.for_person(run.keep_all, program.path, good)
     return run.status, run.text
 
 
-def say_why(*given, good=(0,)):
-    """Runs the program, and says what its answer means where its status is no good one. Returns its status and its text."""
+def say_why(*given: Given | str, good: Sequence[int] = (0,)) -> tuple[int, str]:
+    """Runs the program, and says what its answer means where its status is no good one. Returns its status and its
+    text."""
     return answer_for(REFUSALS, *given, good=good)
 
 
-def look(how, *given):
-    """Says what there is to warn of in the files of a run that is to come. Returns how many warnings were said, and whether they end it: `how` is strict."""
+def look(how: How, *given: str) -> tuple[int, bool]:
+    """Says what there is to warn of in the files of a run that is to come. Returns how many warnings were said, and
+    whether they end it: `how` is strict."""
     run = Run(list(map(str, given)), how)
     run.resolve()
     run.program = program.path()
@@ -54,27 +66,29 @@ def look(how, *given):
     return run.warned, is_ended
 
 
-class Stop(Exception):
+class Unable(Exception):
     """The front end can't do what is asked: why, and the exit status."""
 
-    def __init__(self, why, status, more=()):
+    def __init__(self, why: str | None, status: int, more: Sequence[str] = ()) -> None:
         super().__init__(why)
         self.status, self.more = status, more
 
 
 class Given:
-    """A file of a run: the path that the program gets, its name as it is told, the folder for which it stands, or None, and the word that was typed."""
+    """A file of a run: the path that the program gets, its name as it is told, the folder for which it stands, or None,
+    and the word that was typed."""
 
-    def __init__(self, real, shown, folder=None, typed=None):
+    def __init__(self, real: str, shown: str, folder: str | None = None, typed: str | None = None) -> None:
         self.real, self.shown, self.folder, self.typed = real, shown, folder, typed or shown
+        self.kept: IO[bytes] | None = None       # the file with the standard input, which is there as long as this
 
 
-def standard_input():
+def standard_input() -> IO[bytes]:
     """All of the standard input, in a file that goes when it is closed."""
     import shutil
     import tempfile
     if sys.stdin is None:
-        raise Stop("the standard input is closed", UNREAD)
+        raise Unable("the standard input is closed", UNREAD)
     spooled = tempfile.NamedTemporaryFile(prefix="planner-")
     shutil.copyfileobj(sys.stdin.buffer, spooled)
     spooled.flush()
@@ -82,61 +96,85 @@ def standard_input():
 
 
 class Names:
-    """The files that some words name, where one of them may be `-`, the standard input. Each is a path, which knows the name that is told."""
+    """The files that some words name, where one of them may be `-`, the standard input. Each is a path, which knows the
+    name that is told."""
 
-    def __init__(self):
-        self.spooled = None
+    def __init__(self) -> None:
+        self.spooled: IO[bytes] | None = None
 
-    def real(self, word):
+    def real(self, word: str) -> str:
         """The path of a file."""
         if word != "-":
             return word
         if self.spooled is not None:
-            raise Stop(TWICE, WRONG_WORDS)
+            raise Unable(TWICE, WRONG_WORDS)
         self.spooled = standard_input()
         return self.spooled.name
 
-    def is_input(self, path):
+    def is_input(self, path: str) -> bool:
         return self.spooled is not None and path == self.spooled.name
 
-    def shown(self, path):
+    def shown(self, path: str) -> str:
         """The name of a file, as it is told."""
         return INPUT_NAME if self.is_input(path) else path
 
-    def given(self, path):
+    def given(self, path: str) -> Given | str:
         """The file for a run of the program."""
         return Given(path, INPUT_NAME) if self.is_input(path) else path
 
 
-def joined(folder, name):
+def joined(folder: str, name: str) -> str:
     return name if folder == "." else os.path.join(folder, name)
 
 
-def beside(folder, name):
-    """The path of a file of a folder; where it is an update's, of the folder above it, which has the files that the update began with. None where there is none."""
+def beside(folder: str, name: str) -> str | None:
+    """The path of a file of a folder; where it is an update's, of the folder above it, which has the files that the
+    update began with. None where there is none."""
     above = os.path.normpath(os.path.join(folder, os.pardir))
-    is_update = os.path.isfile(os.path.join(folder, "plan.json")) and not os.path.isfile(os.path.join(folder, "topology.json"))
-    return next((path for path in (joined(folder, name), *([joined(above, name)] if is_update else [])) if os.path.isfile(path)), None)
+    is_update = os.path.isfile(os.path.join(folder, "plan.json")) and not os.path.isfile(
+        os.path.join(folder, "topology.json")
+    )
+    return next(
+        (
+            path
+            for path in (joined(folder, name), *([joined(above, name)] if is_update else []))
+            if os.path.isfile(path)
+        ),
+        None,
+    )
 
 
-def inside(folder, name):
+def inside(folder: str, name: str) -> Given | str:
     """A word behind a folder: where it names no file, but one of the folder, it is that one."""
     path = joined(folder, name)
     return Given(path, path, typed=name) if not os.path.exists(name) and os.path.isfile(path) else name
 
 
-def doubtful(folder, given):
-    """Of words behind a folder those that name a file of the working folder, though the folder has another file of that name: what is said of each."""
+def doubtful(folder: str, given: Sequence[Any]) -> list[tuple[str, list[str]]]:
+    """Of words behind a folder those that name a file of the working folder, though the folder has another file of that
+    name: what is said of each."""
     found = []
     for word in given:
         path = joined(folder, word) if isinstance(word, str) else ""
-        if os.path.basename(str(word)) == word and os.path.isfile(word) and os.path.isfile(path) and not is_same(word, path):
-            found.append((f"{word} is the file of the working folder, and {folder} has another one of this name",
-                          [f"`{path}` names that one, and `{os.path.join('.', word)}` the one that is taken without this warning"]))
+        if (
+            os.path.basename(str(word)) == word
+            and os.path.isfile(word)
+            and os.path.isfile(path)
+            and not is_same(word, path)
+        ):
+            found.append(
+                (
+                    f"{word} is the file of the working folder, and {folder} has another one of this name",
+                    [
+                        f"`{path}` names that one, and `{os.path.join('.', word)}` the one that is taken without this"
+                        " warning"
+                    ],
+                )
+            )
     return found
 
 
-def is_same(one, other):
+def is_same(one: str, other: str) -> bool:
     """Whether two files hold the same."""
     import filecmp
     try:
@@ -148,29 +186,44 @@ def is_same(one, other):
 class Run:
     """A run of a command of the program."""
 
-    def __init__(self, given, options):
+    def __init__(self, given: Sequence[Any], options: Options | How) -> None:
+        """`given` are the words: the command, and names of files, or each as a `Given`."""
         self.given, self.options = given, options
-        self.voice = Voice(is_quiet=options.is_quiet)
-        self.command = words.BY_NAME.get(given[0]) if given else None
+        self.voice: Voice = Voice(is_quiet=options.is_quiet)
+        self.command: words.Command = words.BY_NAME.get(given[0]) if given else None
         if self.command is None or not self.command.is_proved:
             self.command = words.Command(given[0] if given else "", "", "", "")
-        self.program, self.files, self.spooled, self.folder = None, {}, None, None
-        self.status, self.text, self.fault, self.target = None, "", None, options.output or "the standard output"
-        self.passed, self.notes, self.warned, self.behind = list(given), [], 0, list(given[1:])
+        self.program: str | None = None
+        self.files: dict[str, Given] = {}
+        self.spooled: IO[bytes] | None = None
+        self.folder: str | None = None
+        self.text: str = ""
+        self.target: str = options.output or "the standard output"
+        self.status: int | None = None
+        self.fault: BrokenPipeError | OSError | None = None
+        self.passed: list[Any] = list(given)     # the words that the program gets
+        self.warned: int = 0
+        self.behind: list[Any] = list(given[1:])
+        self.notes: list[Caution] = []
 
-    def ask(self, *more):
+    def ask(self, *more: str) -> tuple[int, str]:
         """The status and the text of another run of the program."""
         return program.run(*more, program=self.program)
 
     # ---- the words
 
-    def resolve(self):
-        """Finds the files behind the words: a folder stands for the names that are left out, `-` for the standard input."""
+    def resolve(self) -> None:
+        """Finds the files behind the words: a folder stands for the names that are left out, `-` for the standard
+        input."""
         if not self.command.usage:
             return
         wanted, least = self.command.words()
         rest = self.given[1:]
-        folder = rest[0] if rest and wanted and wanted[0] == "TOPO" and isinstance(rest[0], str) and os.path.isdir(rest[0]) else None
+        folder = (
+            rest[0]
+            if rest and wanted and wanted[0] == "TOPO" and isinstance(rest[0], str) and os.path.isdir(rest[0])
+            else None
+        )
         self.folder = folder
         if folder is not None:
             rest = self.unfolded(folder, wanted, least, rest[1:])
@@ -180,48 +233,61 @@ class Run:
         for word, text in zip(wanted, rest):
             if word in words.FILES:
                 self.files[word] = text if isinstance(text, Given) else self.file(text)
-        self.passed = [self.given[0], *(self.files[word].real if word in self.files else getattr(text, "typed", text) for word, text in zip(wanted, rest))]
+        self.passed = [
+            self.given[0],
+            *(
+                self.files[word].real if word in self.files else getattr(text, "typed", text)
+                for word, text in zip(wanted, rest)
+            ),
+        ]
 
     @staticmethod
-    def unfolded(folder, wanted, least, behind):
+    def unfolded(folder: str, wanted: Sequence[str], least: int, behind: Sequence[Any]) -> list[Any]:
         """The words of a command whose first names are in a folder: as many as are left out stand for files of it."""
         names = next((at for at, word in enumerate(wanted) if word not in words.FILES), len(wanted))
-        chosen = behind[-1:] if behind and names == least < len(wanted) and behind[-1] in words.CHOICES.get(wanted[names], ()) else []
+        chosen = (
+            behind[-1:]
+            if behind and names == least < len(wanted) and behind[-1] in words.CHOICES.get(wanted[names], ())
+            else []
+        )
         behind = [inside(folder, word) for word in behind[:len(behind) - len(chosen)]]
         count = min(max(1, least - len(behind)), names)
         in_folder = [words.IN_FOLDER.get(word, "") for word in wanted]
-        taken = [Given(path, path, folder) for path in (beside(folder, name) or joined(folder, name) for name in in_folder[:count])]
-        rest = [*taken, *behind, *chosen]
+        taken = [
+            Given(path, path, folder)
+            for path in (beside(folder, name) or joined(folder, name) for name in in_folder[:count])
+        ]
+        rest: list[Any] = [*taken, *behind, *chosen]
         for name in in_folder[len(rest):]:
             path = beside(folder, name) if name else None
             if path is not None:
                 rest.append(Given(path, path, folder))
         return rest
 
-    def refuse_options(self):
+    def refuse_options(self) -> None:
         """Refuses an option that isn't there, which would be taken for the name of a file."""
         from planner_tools.explanations import is_option, option_lines
         odd = [one.shown for one in self.files.values() if is_option(one.shown) and not os.path.exists(one.shown)]
         if odd:
-            raise Stop(option_lines(odd)[0], WRONG_WORDS, ["`planner --help` has the options"])
+            raise Unable(option_lines(odd)[0], WRONG_WORDS, ["`planner --help` has the options"])
 
-    def file(self, text):
+    def file(self, text: str) -> Given:
         if text != "-":
             return Given(text, text)
         if self.spooled is not None:
-            raise Stop(TWICE, WRONG_WORDS)
+            raise Unable(TWICE, WRONG_WORDS)
         self.spooled = standard_input()
         return Given(self.spooled.name, INPUT_NAME)
 
     # ---- the run
 
-    def run(self):
+    def run(self) -> int:
         """Runs the program, hands its text on, and returns the exit status."""
         return self.for_person(self.hand_on, program.built)
 
-    def for_person(self, work, find, good=(0,)):
-        """The one way in which the program is run for a person: the warnings about its files before it, its answer as `work` takes it, and what that means
-        behind it, where its status is no good one. Returns the exit status."""
+    def for_person(self, work: Callable[..., Any], find: Callable[..., Any], good: Sequence[int] = (0,)) -> int:
+        """The one way in which the program is run for a person: the warnings about its files before it, its answer as
+        `work` takes it, and what that means behind it, where its status is no good one. Returns the exit status."""
         self.resolve()
         self.refuse_options()
         self.program = find()
@@ -237,17 +303,17 @@ class Run:
             self.say_notes()
         return self.status if self.status >= 0 else 128 - self.status
 
-    def is_ended_by_warnings(self):
+    def is_ended_by_warnings(self) -> bool:
         """Says the warnings about the files, where they aren't said already; and whether they are the end."""
         if not self.files or self.options.is_warned or self.options.is_quiet and not self.options.is_strict:
             return False
         return self.has_warnings() and self.options.is_strict
 
-    def say_notes(self):
+    def say_notes(self) -> None:
         for one in self.notes:
             self.voice.note(one.what, one.more)
 
-    def has_warnings(self):
+    def has_warnings(self) -> bool:
         from planner_tools.cautions import Caution, cautions
         found = [Caution(what, more) for what, more in doubtful(self.folder, self.given[2:])] if self.folder else []
         found += self.safely(lambda: cautions(self)) or []
@@ -259,15 +325,21 @@ class Run:
         self.warned = len(warnings)
         return bool(warnings)
 
-    def explain(self):
+    def explain(self) -> None:
         if self.status == 0 and self.command.name != "explain":
             return
         from planner_tools.explanations import Explainer
         Explainer(self).explain()
 
-    def tell_costs(self):
+    def tell_costs(self) -> None:
         """Behind a plan of `pack`, where a person reads: what it costs, and what one of the other kind would."""
-        if self.status != 0 or self.command.name != "pack" or self.options.wait is None or not self.voice.is_read() or len(self.text.encode()) >= KEPT:
+        if (
+            self.status != 0
+            or self.command.name != "pack"
+            or self.options.wait is None
+            or not self.voice.is_read()
+            or len(self.text.encode()) >= KEPT
+        ):
             return
         import json
         plan = json.loads(self.text)
@@ -275,12 +347,12 @@ class Run:
             first, *more = self.costs().words(plan)
             self.voice.note(first, more)
 
-    def costs(self):
+    def costs(self) -> Costs:
         """The costs of plans for the files of this run."""
         from planner_tools.costs import Costs
         return Costs(self.ask, [self.files[word].real for word in ("TOPO", "OLD", "NEW", "POLICY")], self.options.wait)
 
-    def safely(self, work):
+    def safely(self, work: Callable[..., Any]) -> list[Caution] | None:
         """Does what isn't needed for the answer. Where it fails the answer stands all the same."""
         try:
             return work()
@@ -290,11 +362,11 @@ class Run:
             self.voice.note(f"no more can be said of this: {type(fault).__name__}: {fault}")
             return None
 
-    def keep_all(self):
+    def keep_all(self) -> None:
         """Runs the program, and keeps its text, which isn't handed on."""
         self.status, self.text = self.ask(*self.passed)
 
-    def hand_on(self):
+    def hand_on(self) -> None:
         """Runs the program, and hands on what it writes as it comes."""
         output = Output(self.options.output)
         try:
@@ -315,7 +387,7 @@ class Run:
         if self.fault is not None:
             self.status = UNWRITTEN
 
-    def hand_on_from(self, started, output):
+    def hand_on_from(self, started: program.Started, output: Output) -> None:
         """Hands on what a run of the program writes, and keeps the beginning of it."""
         kept, size = [], 0
         while piece := started.read():
@@ -325,7 +397,7 @@ class Run:
             output.write(piece)
         self.text = b"".join(kept).decode("utf-8", "replace")
 
-    def end(self, output):
+    def end(self, output: Output) -> None:
         try:
             output.end(self.status)
         except OSError as fault:
@@ -333,35 +405,42 @@ class Run:
 
 
 class Output:
-    """Where the text goes: to the standard output, or with `-o` into a file, which is there only where the answer is yes."""
+    """Where the text goes: to the standard output, or with `-o` into a file, which is there only where the answer is
+    yes."""
 
-    def __init__(self, path):
-        self.path, self.handle, self.name = path, STANDARD_OUTPUT, None
+    def __init__(self, path: str | None) -> None:
+        self.path, self.handle = path, STANDARD_OUTPUT
+        self.name: str | None = None
         if path is not None and (not os.path.exists(path) or os.path.isfile(path)):
             self.open_beside()
         elif path is not None:
             self.open_there()
 
-    def open_beside(self):
+    def open_beside(self) -> None:
         """Opens a new file beside the one that is to be written."""
         import tempfile
         try:
-            self.handle, self.name = tempfile.mkstemp(prefix=f".{os.path.basename(self.path)}.", dir=os.path.dirname(self.path) or ".")
+            self.handle, self.name = tempfile.mkstemp(
+                prefix=f".{os.path.basename(self.path)}.", dir=os.path.dirname(self.path) or "."
+            )
         except OSError as fault:
-            raise Stop(f"{self.path}: {fault.strerror}", UNWRITTEN) from fault
+            raise Unable(f"{self.path}: {fault.strerror}", UNWRITTEN) from fault
 
-    def open_there(self):
+    def open_there(self) -> None:
         """Opens what is no ordinary file, as /dev/stdout. A folder is none that can be written."""
         try:
             self.handle = os.open(self.path, os.O_WRONLY)
         except OSError as fault:
-            raise Stop(f"{self.path}: {fault.strerror}", UNWRITTEN, ["-o takes the name of a file"] if os.path.isdir(self.path) else []) from fault
+            raise Unable(
+                f"{self.path}: {fault.strerror}", UNWRITTEN,
+                ["-o takes the name of a file"] if os.path.isdir(self.path) else [],
+            ) from fault
 
-    def write(self, piece):
+    def write(self, piece: bytes) -> None:
         while piece:
             piece = piece[os.write(self.handle, piece):]
 
-    def end(self, status):
+    def end(self, status: int) -> None:
         """The text is whole: it is kept where the answer is yes. Another answer goes to the standard output."""
         if self.name is None:
             return
@@ -379,7 +458,7 @@ class Output:
                 text = text[os.write(STANDARD_OUTPUT, text):]
         self.name = None
 
-    def drop(self):
+    def drop(self) -> None:
         if self.name is not None:
             os.close(self.handle)
             os.unlink(self.name)

@@ -1,4 +1,7 @@
-"""`--json`: the answer of a command as one object for machines. docs/FRONT_END.md has its members. Of `update` and `apply` it is a line for each event."""
+"""`--json`: the answer of a command as one object for machines. docs/FRONT_END.md has its members. Of `update` and
+`apply` it is a line for each event."""
+from __future__ import annotations
+
 import io
 import json
 import os
@@ -10,18 +13,27 @@ from planner_tools.files import Json, Text, member_path
 from planner_tools.proved import Run
 from planner_tools.voice import Voice
 
+TYPE_CHECKING = False
+if TYPE_CHECKING:
+    from typing import Any, Callable, Sequence, TextIO
+
+    from planner_tools.main import Options
+    from planner_tools.proved import Given
+
 FORMAT = 1
 # The commands that write events.
 WITH_EVENTS = ("apply", "update")
 # The commands that have such an option of their own: their members stand beside the others.
 WITH_OPTION = ("diff", "links", "show")
-NOTHING, REFUSED = {}, 1
+REFUSED = 1
+NOTHING: dict[str, Any] = {}
 # What status 1 of a command outside the proved program says, where nothing stopped it.
 ANSWERS_NO = {"links": "used"}
 
 
-def report(words, answer):
-    """Does what the words say, and writes the answer as an object. `answer` does it otherwise, and returns the exit status."""
+def report(words: Sequence[str], answer: Callable[..., Any]) -> int:
+    """Does what the words say, and writes the answer as an object. `answer` does it otherwise, and returns the exit
+    status."""
     others = [word for word in words if word != "--json"]
     name = next((word for word in others if not word.startswith("-")), "")
     if name in WITH_EVENTS and "--help" not in others:
@@ -32,13 +44,13 @@ def report(words, answer):
     return status
 
 
-def output_of(words):
+def output_of(words: Sequence[str]) -> str | None:
     """The file behind `-o`, or None."""
     at = words.index("-o") if "-o" in words else len(words)
     return words[at + 1] if at + 1 < len(words) else None
 
 
-def status_of(answer, *words, **more):
+def status_of(answer: Callable[..., Any], *words: Sequence[str], **more: Callable[..., Any]) -> int:
     """The exit status of a command, also where a wrong word ended it."""
     try:
         return answer(*words, **more)
@@ -46,28 +58,35 @@ def status_of(answer, *words, **more):
         return end.code if isinstance(end.code, int) else REFUSED if end.code else 0
 
 
-def told(name, words, answer):
+def told(name: str, words: Sequence[str], answer: Callable[..., Any]) -> int:
     """Runs a command that writes events. The last one has the exit status."""
-    error, output = sys.stderr, sys.stdout
+    error: TextIO = sys.stderr
+    output: TextIO = sys.stdout
     events.SINK, Voice.listener = output, events.heard
-    sys.stderr = events.Lines(error)
+    lines: Any = events.Lines(error)
+    sys.stderr = lines
     sys.stdout = io.StringIO()
     try:
         status = status_of(answer, words)
-        events.tell("end", command=name, status=status, verdict=answers.VERDICTS.get(status, "ended") if status != REFUSED else "stopped")
+        events.tell(
+            "end", command=name, status=status,
+            verdict=answers.VERDICTS.get(status, "ended") if status != REFUSED else "stopped",
+        )
         return status
     finally:
-        sys.stdout, sys.stderr, events.SINK, Voice.listener = output, error, None, None
+        sys.stdout, sys.stderr = output, error
+        events.SINK = None
+        Voice.listener = None
 
 
 class Asking(Run):
     """A run of a proved command that keeps the ways of packets for which the program was asked meanwhile."""
 
-    def __init__(self, given, options):
+    def __init__(self, given: Sequence[str], options: Options) -> None:
         super().__init__(given, options)
-        self.ways = []
+        self.ways: list[tuple[str, Sequence[Any], str]] = []
 
-    def ask(self, *more):
+    def ask(self, *more: str) -> tuple[int, str]:
         status, text = super().ask(*more)
         if more[0] == "trace" and status == 0:
             file = next((one.shown for one in self.files.values() if one.real == more[2]), more[2])
@@ -78,20 +97,24 @@ class Asking(Run):
 class Held:
     """Both output streams, kept in files as long as a command runs, also what the processes write that it begins."""
 
-    def __init__(self):
+    def __init__(self) -> None:
         self.files = {one: tempfile.TemporaryFile(prefix="planner-") for one in (1, 2)}
         self.before = {one: os.dup(one) for one in self.files}
-        self.streams, self.texts = (sys.stdout, sys.stderr), {}
+        self.streams = (sys.stdout, sys.stderr)
+        self.texts: dict[int, str] = {}
 
-    def __enter__(self):
+    def __enter__(self) -> Held:
         sys.stdout.flush()
         sys.stderr.flush()
         for one, file in self.files.items():
             os.dup2(file.fileno(), one)
-        sys.stdout, sys.stderr = (open(one, "w", encoding="utf-8", errors=stream.errors, closefd=False) for one, stream in zip(self.files, self.streams))
+        sys.stdout, sys.stderr = (
+            open(one, "w", encoding="utf-8", errors=stream.errors, closefd=False)
+            for one, stream in zip(self.files, self.streams)
+        )
         return self
 
-    def __exit__(self, *_):
+    def __exit__(self, *_: object | None) -> None:
         sys.stdout.flush()
         sys.stderr.flush()
         sys.stdout, sys.stderr = self.streams
@@ -106,12 +129,14 @@ class Held:
 class Report:
     """What a command answered, and what was said beside it."""
 
-    def __init__(self, name):
-        self.name, self.asking, self.text, self.lines = name, None, "", []
-        self.said = {"refusal": [], "warning": [], "note": []}
-        self.places = []
+    def __init__(self, name: str) -> None:
+        self.name, self.text = name, ""
+        self.asking: Asking | None = None
+        self.lines: list[str] = []
+        self.said: dict[str, list[dict[str, Any]]] = {"refusal": [], "warning": [], "note": []}
+        self.places: list[tuple[str, Text, int]] = []
 
-    def run(self, words, answer):
+    def run(self, words: Sequence[str], answer: Callable[..., Any]) -> int:
         """Runs the command, and keeps all that it writes and says."""
         Voice.listener, Text.told = self.hear, self.places
         held = Held()
@@ -125,49 +150,69 @@ class Report:
             Voice.listener = Text.told = None
             self.text, self.lines = held.texts.get(1, ""), held.texts.get(2, "").splitlines()
 
-    def begin(self, given, options):
+    def begin(self, given: Sequence[str], options: Options) -> Asking:
         self.asking = Asking(given, options)
         return self.asking
 
-    def hear(self, head, what, more):
+    def hear(self, head: str, what: str, more: Sequence[str]) -> None:
         """Takes what a voice says, with the places in files that it names."""
         kind = next((one for one in ("warning", "note") if f" {one}:" in head), "refusal")
         self.said[kind].append({"what": what, "more": list(more), "places": self.places_in([what, *more])})
 
-    def places_in(self, texts):
+    def places_in(self, texts: Sequence[str]) -> list[dict[str, Any]]:
         """The places that stand in some sentences, in the order in which they were found."""
         found = []
         for words, text, at in self.places:
             line, column = text.place(at)
             place = {"file": text.path, "line": line, "column": column, "member": member_at(text, at)}
-            if place not in found and any(words + "," in one or words + ":" in one or one.endswith(words) for one in texts):
+            if place not in found and any(
+                words + "," in one or words + ":" in one or one.endswith(words) for one in texts
+            ):
                 found.append(place)
-        return found or [place for file in (self.asking.files.values() if self.asking else ()) for place in line_place(file, texts[0])]
+        return found or [
+            place
+            for file in (self.asking.files.values() if self.asking else ())
+            for place in line_place(file, texts[0])
+        ]
 
-    def values(self, status, output):
+    def values(self, status: int, output: str | None) -> dict[str, Any]:
         """The object."""
         reason, named = answers.reason_of(status, self.text) if self.asking else (None, None)
-        verdict = answers.verdict_of(self.name, status, self.text, self.said["warning"]) if self.asking else self.own_verdict(status)
+        verdict = (
+            answers.verdict_of(self.name, status, self.text, self.said["warning"])
+            if self.asking
+            else self.own_verdict(status)
+        )
         value = self.own_value(status)
         own = value if isinstance(value, dict) else NOTHING
         is_written = output is not None and status == 0
-        return {"format": FORMAT, "command": self.name, "status": status, "verdict": verdict, "reason": reason, "class": named, "paths": self.paths(status),
-                "places": [place for one in self.said["refusal"] for place in one["places"]], "warnings": self.said["warning"], "refusals": self.said["refusal"],
-                "notes": self.said["note"], "said": self.lines, "output": output if is_written else None,
-                "answer": None if is_written or own else value if value is not None else answers.value_of(self.name, status, self.text), **own}
+        return {
+            "format": FORMAT, "command": self.name, "status": status, "verdict": verdict, "reason": reason,
+            "class": named, "paths": self.paths(status),
+            "places": [place for one in self.said["refusal"] for place in one["places"]],
+            "warnings": self.said["warning"], "refusals": self.said["refusal"], "notes": self.said["note"],
+            "said": self.lines, "output": output if is_written else None,
+            "answer": None
+            if is_written or own
+            else value
+            if value is not None
+            else answers.value_of(self.name, status, self.text),
+            **own,
+        }
 
-    def own_verdict(self, status):
+    def own_verdict(self, status: int) -> str:
         """The verdict of a command outside the proved program."""
         return ANSWERS_NO.get(self.name, "stopped") if status == REFUSED else answers.verdict_of("", status)
 
-    def own_value(self, status):
-        """What the command itself writes as JSON: an object, whose members stand beside the others, or a list, which is the answer; None where it is neither."""
+    def own_value(self, status: int) -> dict[str, Any] | list[dict[str, Any]] | None:
+        """What the command itself writes as JSON: an object, whose members stand beside the others, or a list, which is
+        the answer; None where it is neither."""
         try:
             return json.loads(self.text) if status in (0, REFUSED) and self.name in WITH_OPTION else None
         except ValueError:
             return None
 
-    def paths(self, status):
+    def paths(self, status: int) -> list[dict[str, Any]]:
         """The ways of packets that were looked at."""
         ways = list(self.asking.ways) if self.asking else []
         if self.name == "trace" and status == 0 and self.asking:
@@ -175,23 +220,35 @@ class Report:
         found = []
         for file, (entry, vlan, address), text in ways:
             stops, end = answers.stops_of(text)
-            found.append({"file": file, "from": entry, "vlan": answers.vlan_value(vlan), "address": address, "stops": stops, "end": end})
+            found.append(
+                {
+                    "file": file, "from": entry, "vlan": answers.vlan_value(vlan), "address": address, "stops": stops,
+                    "end": end,
+                }
+            )
         return found
 
 
-def line_place(file, text):
+def line_place(file: Given, text: str) -> list[dict[str, Any]]:
     """The line of a file that a sentence begins with, as a list of at most one place."""
-    number = text[len(file.shown) + len(", line "):].partition(":")[0] if text.startswith(f"{file.shown}, line ") else ""
+    number = (
+        text[len(file.shown) + len(", line ") :].partition(":")[0] if text.startswith(f"{file.shown}, line ") else ""
+    )
     return [{"file": file.shown, "line": int(number), "column": None, "member": None}] if number.isdigit() else []
 
 
-def member_at(text, at):
-    """The member of a JSON file whose value, or name, begins at a character, as links[4][1]; None where there is none."""
+def member_at(text: Json | Text, at: int) -> str | None:
+    """The member of a JSON file whose value, or name, begins at a character, as links[4][1]; None where there is
+    none."""
     if not isinstance(text, Json):
         return None
     value, way = text.root, []
     while value.start != at:
-        steps = [(name, start, one) for name, start, one in value.held] if value.kind == "object" else [(number, one.start, one) for number, one in enumerate(value.items())]
+        steps = (
+            [(name, start, one) for name, start, one in value.held]
+            if value.kind == "object"
+            else [(number, one.start, one) for number, one in enumerate(value.items())]
+        )
         inner = next(((step, start, one) for step, start, one in steps if start <= at < one.end), None)
         if inner is None:
             return None

@@ -1,12 +1,21 @@
-"""The program that a checkout brings along: the folder dist/, with the built program and a text that says what it was built from.
+"""The program that a checkout brings along: the folder dist/, with the built program and a text that says what it was
+built from.
 
-It is run only where the files of the checkout are those that it was built from, which sums in the text tell. So that some ten megabytes aren't read at
-each command, what was found is remembered in dist/.seen, beside the sizes, times and numbers of all files that count. It holds as long as each of these
-is the same, and nothing is remembered of files of which one is younger than three seconds: such a one may change once more and look the same.
+It is run only where the files of the checkout are those that it was built from, which sums in the text tell. So that
+some ten megabytes aren't read at each command, what was found is remembered in dist/.seen, beside the sizes, times and
+numbers of all files that count. It holds as long as each of these is the same, and nothing is remembered of files of
+which one is younger than three seconds: such a one may change once more and look the same.
 """
+from __future__ import annotations
+
 import os
 import stat
 import time
+
+TYPE_CHECKING = False
+if TYPE_CHECKING:
+    import pathlib
+    from typing import Sequence
 
 FOLDER = "dist"
 PROGRAM = "dist/planner_cli"
@@ -26,7 +35,7 @@ NO_LIBRARY = "none"
 # What the text says, each in a line behind its name.
 NAMES = ("toolchain", "machine", "glibc", "program", "sources")
 # What was found in this run of the front end, by the root of the checkout.
-answers = {}
+answers: dict[str, str | None] = {}
 
 
 class Unfit(Exception):
@@ -35,8 +44,9 @@ class Unfit(Exception):
 
 # ---- what the program is made from
 
-def read(root, path):
-    """The bytes of a file. A program that was taken apart in the meantime, or a file that can't be read, is none that fits."""
+def read(root: pathlib.Path | str, path: str) -> bytes:
+    """The bytes of a file. A program that was taken apart in the meantime, or a file that can't be read, is none that
+    fits."""
     try:
         with open(os.path.join(root, path), "rb") as file:
             return file.read()
@@ -44,11 +54,12 @@ def read(root, path):
         raise Unfit(f"{path} can't be read: {fault.strerror}") from fault
 
 
-def listed(root):
+def listed(root: pathlib.Path | str) -> list[tuple[str, list[str]]]:
     """The crates of the program, each with the words behind it in crates.txt, sorted by their names."""
-    lines = [line.partition(b"#")[0].partition(b":") for line in read(root, CRATES).splitlines()]
-    lines = {name.strip().decode(): used.decode().split() for name, colon, used in lines if colon}
-    found, left = {}, [TOP]
+    parts = [line.partition(b"#")[0].partition(b":") for line in read(root, CRATES).splitlines()]
+    lines = {name.strip().decode(): used.decode().split() for name, colon, used in parts if colon}
+    found: dict[str, list[str]] = {}
+    left = [TOP]
     while left:
         name = left.pop()
         if name in lines and name not in found:
@@ -57,9 +68,14 @@ def listed(root):
     return sorted(found.items())
 
 
-def marks(root, crates):
-    """The files of the crates, from the root on, each with what the system says of it, sorted. Those that editors keep, `.NAME` and `NAME~`, don't count."""
-    rows, folders = [], [folder for folder in (f"crates/{name}/{part}" for name, _ in crates for part in PARTS) if os.path.lexists(f"{root}/{folder}")]
+def marks(root: pathlib.Path | str, crates: Sequence[tuple[str, list[str]]]) -> list[tuple[str, os.stat_result]]:
+    """The files of the crates, from the root on, each with what the system says of it, sorted. Those that editors keep,
+    `.NAME` and `NAME~`, don't count."""
+    rows, folders = [], [
+        folder
+        for folder in (f"crates/{name}/{part}" for name, _ in crates for part in PARTS)
+        if os.path.lexists(f"{root}/{folder}")
+    ]
     while folders:
         folder = folders.pop()
         try:
@@ -77,8 +93,9 @@ def marks(root, crates):
     return sorted(rows, key=lambda row: row[0])
 
 
-def sum_of_sources(root, toolchain):
-    """The sum of all that the program is built from: the toolchain, the crates of the program and what they use, and each of their files."""
+def sum_of_sources(root: pathlib.Path | str, toolchain: str) -> str:
+    """The sum of all that the program is built from: the toolchain, the crates of the program and what they use, and
+    each of their files."""
     import hashlib
     crates = listed(root)
     whole = hashlib.sha256(f"{toolchain}\n".encode())
@@ -94,53 +111,59 @@ def sum_of_sources(root, toolchain):
     return whole.hexdigest()
 
 
-def sum_of(data):
+def sum_of(data: bytes) -> str:
     import hashlib
     return hashlib.sha256(data).hexdigest()
 
 
 # ---- whether the program fits
 
-def said(root):
+def said(root: str) -> dict[str, str]:
     """What the text says, by its names."""
     lines = [line.partition("#")[0].split(None, 1) for line in read(root, TEXT).decode("ascii", "replace").splitlines()]
     return {line[0]: line[1].strip() for line in lines if len(line) == 2}
 
 
-def look(root):
+def look(root: str) -> None:
     """Raises Unfit where the program isn't the one of the text, or the text isn't that of the files here."""
     about = said(root)
-    toolchains = [line.split(None, 1)[1].strip() for line in read(root, TOOLCHAINS).decode("ascii", "replace").splitlines() if line.startswith("rattle ")]
+    toolchains = [
+        line.split(None, 1)[1].strip()
+        for line in read(root, TOOLCHAINS).decode("ascii", "replace").splitlines()
+        if line.startswith("rattle ")
+    ]
     for name in NAMES:
         if name not in about:
             raise Unfit(f"{TEXT} has no line {name}")
     if about["toolchain"] not in toolchains:
-        raise Unfit(f"{TOOLCHAINS} doesn't name the toolchain that built the program of {FOLDER}/, {about['toolchain']}")
+        raise Unfit(
+            f"{TOOLCHAINS} doesn't name the toolchain that built the program of {FOLDER}/, {about['toolchain']}"
+        )
     if sum_of(read(root, PROGRAM)) != about["program"]:
         raise Unfit(f"{PROGRAM} isn't the program of which {TEXT} speaks")
     if sum_of_sources(root, about["toolchain"]) != about["sources"]:
         raise Unfit(f"the program of {FOLDER}/ was built from other sources than those that are here")
 
 
-def machine():
+def machine() -> str:
     """The kind of this machine, in the words of the text."""
     about = os.uname()
     return f"{about.machine} {about.sysname}"
 
 
-def library():
+def library() -> tuple[int, ...] | None:
     """The version of the C library of this machine as numbers, or None where it has another one than that of GNU."""
     try:
-        return numbers(os.confstr("CS_GNU_LIBC_VERSION").split()[1])
+        return numbers((os.confstr("CS_GNU_LIBC_VERSION") or "").split()[1])
     except (AttributeError, IndexError, OSError, ValueError):
         return None
 
 
-def numbers(version):
+def numbers(version: str) -> tuple[int, ...]:
     return tuple(map(int, version.split(".")))
 
 
-def suits(root):
+def suits(root: str) -> None:
     """Raises Unfit where the program can't run on this machine."""
     about = said(root)
     if about["machine"] != machine():
@@ -153,22 +176,24 @@ def suits(root):
 
 # ---- what is remembered
 
-def state(root):
+def state(root: str) -> tuple[str, list[os.stat_result]]:
     """The sizes, times and numbers of all files that count, as text, and what the system says of each of them."""
     try:
-        rows = [(path, os.stat(os.path.join(root, path))) for path in (PROGRAM, TEXT, CRATES, HANDLES, TOOLCHAINS)] + marks(root, listed(root))
+        rows = [
+            (path, os.stat(os.path.join(root, path))) for path in (PROGRAM, TEXT, CRATES, HANDLES, TOOLCHAINS)
+        ] + marks(root, listed(root))
     except OSError as fault:
         raise Unfit(f"{fault.filename}: {fault.strerror}") from fault
     text = "".join(f"{path} {it.st_size} {it.st_mtime_ns} {it.st_ctime_ns} {it.st_ino}\n" for path, it in rows)
     return text, [it for _, it in rows]
 
 
-def last_change(rows):
+def last_change(rows: Sequence[os.stat_result]) -> float:
     """The last moment at which one of the files was changed."""
     return max(max(it.st_mtime, it.st_ctime) for it in rows)
 
 
-def remembered(root, text):
+def remembered(root: str, text: str) -> str | None:
     """What was found when the files were in this state, or None."""
     try:
         with open(os.path.join(root, SEEN), encoding="utf-8", errors="surrogateescape", newline="\n") as file:
@@ -178,7 +203,7 @@ def remembered(root, text):
         return None
 
 
-def remember(root, text, what):
+def remember(root: str, text: str, what: str) -> None:
     """Keeps what was found, in one step; where nothing can be written it is found anew the next time."""
     path = os.path.join(root, f"{SEEN}.{os.getpid()}")
     try:
@@ -192,7 +217,7 @@ def remember(root, text, what):
             pass
 
 
-def judged(root):
+def judged(root: str) -> None:
     """Raises Unfit where the text isn't that of the files here, by what is remembered or by reading them."""
     moment = time.time()
     text, rows = state(root)
@@ -209,8 +234,9 @@ def judged(root):
         raise Unfit(what)
 
 
-def why_not(root):
-    """None where the program of dist/ is to be run; otherwise why it isn't. It is looked at once in a run of the front end."""
+def why_not(root: str) -> str | None:
+    """None where the program of dist/ is to be run; otherwise why it isn't. It is looked at once in a run of the front
+    end."""
     if root not in answers:
         try:
             if not os.path.exists(os.path.join(root, TEXT)):

@@ -1,11 +1,14 @@
 #!/usr/bin/env python3
-"""Compares `explain` with every interleaving of the changes and hops of one packet, in small networks: for careless plans of the examples and of
-random networks of 3 to 5 switches, in which the rules that differ are changed in one to three rounds by chance. Where `explain` writes a run, the
-model (model.py, which shares no code with the program) has to carry it out, with a packet that breaks the policy by the last event and by none
-before; and the round and the class have to be the first in which the exploration finds such a packet. Where it says that every mixed walk is good,
-the exploration has to find none. Prints how many of each; the exit status is 1 where they differ.
+"""Compares `explain` with every interleaving of the changes and hops of one packet, in small networks: for careless
+plans of the examples and of random networks of 3 to 5 switches, in which the rules that differ are changed in one to
+three rounds by chance. Where `explain` writes a run, the model (model.py, which shares no code with the program) has to
+carry it out, with a packet that breaks the policy by the last event and by none before; and the round and the class
+have to be the first in which the exploration finds such a packet. Where it says that every mixed walk is good, the
+exploration has to find none. Prints how many of each; the exit status is 1 where they differ.
 
     PLANNER=.. reliability/explain.py [--networks N] [--seed N]"""
+from __future__ import annotations
+
 import argparse
 import collections
 import pathlib
@@ -17,12 +20,16 @@ import explore
 import model
 import runs
 
+TYPE_CHECKING = False
+if TYPE_CHECKING:
+    from typing import Any, Sequence
+
 NOTHING = "no run: every mixed walk is good\n"
 
 
-def careless(update, rng):
+def careless(update: dict[str, dict[str, list[Any]]], rng: random.Random) -> Any:
     """A plan without evidence."""
-    def by_key(rules):
+    def by_key(rules: Sequence[dict[str, Any]]) -> Any:
         return {(rule["switch"], *model.rule_in(rule).key): rule for rule in rules}
 
     old, new = by_key(update["old"]["rules"]), by_key(update["new"]["rules"])
@@ -33,21 +40,25 @@ def careless(update, rng):
     cuts = sorted(rng.choices(range(len(changes) + 1), k=rng.randint(0, 2)))
     numbered = [[do, i] for i, (do, _) in enumerate(changes)]
     rounds = [numbered[begin:end] for begin, end in zip([0, *cuts], [*cuts, len(changes)])]
-    return {"format": 2, "kind": "ordered", "numberings": [], "befores": [], "uses": [], "picks": [], "rules": [rule for _, rule in changes], "rounds": rounds}
+    return {
+        "format": 2, "kind": "ordered", "numberings": [], "befores": [], "uses": [], "picks": [],
+        "rules": [rule for _, rule in changes], "rounds": rounds,
+    }
 
 
-def first_break(motion):
+def first_break(motion: model.Update) -> tuple[int, int] | None:
     """The first round, and in it the first class, for which some run of one packet breaks; None where none does."""
     found = []
     for number, one in enumerate(motion.classes()):
         for run, _ in motion.explore((one,))[1]:
             entry = next(i for i, event in enumerate(run) if event.startswith("enter"))
             found.append((run[:entry].count("settle"), number))
-    return min(found, default=None)
+    return min(found) if found else None
 
 
-def shown_by(motion, events):
-    """The round and the class of a run that breaks by its last event and by none before; None where it is no such run."""
+def shown_by(motion: model.Update, events: Sequence[str]) -> tuple[int, int] | None:
+    """The round and the class of a run that breaks by its last event and by none before; None where it is no such
+    run."""
     classes = motion.classes()
     entered = next(event for event in events if event.startswith("enter"))
     for number, one in enumerate(classes):
@@ -65,10 +76,12 @@ def shown_by(motion, events):
     return None
 
 
-def compare(program, chosen, folder):
+def compare(program: str, chosen: argparse.Namespace, folder: pathlib.Path) -> Any:
     """Compares over all updates; answers whether something differs."""
-    found = collections.Counter()
-    updates = [explore.example("square"), explore.example("detour")] + [explore.random_update(f"{chosen.seed} {i}") for i in range(chosen.networks)]
+    found: collections.Counter[str] = collections.Counter()
+    updates = [explore.example("square"), explore.example("detour")] + [
+        explore.random_update(f"{chosen.seed} {i}") for i in range(chosen.networks)
+    ]
     for i, update in enumerate(updates):
         rng = random.Random(f"{chosen.seed} {i} careless")
         plan = careless(update, rng)
@@ -90,7 +103,7 @@ def compare(program, chosen, folder):
     return found["differ"] > 0 or not found["runs"]
 
 
-def main():
+def main() -> None:
     parser = argparse.ArgumentParser()
     parser.add_argument("--networks", type=int, default=300)
     parser.add_argument("--seed", type=int, default=1)

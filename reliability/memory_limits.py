@@ -1,12 +1,15 @@
 #!/usr/bin/env python3
-"""Runs the commands over large and wasteful files under limits of the system on memory (RLIMIT_AS): 32 MB, 64 MB, and so on, until a run
-answers. A run has to end with status 9 and nothing written, or with the answer of a run without a limit, and never by a signal. Prints for each
-file the greatest memory for a byte of it; the exit status is 1 where a run ended otherwise. As memory of a run the system counts at least that of
-this script, which is about 35 MB.
+"""Runs the commands over large and wasteful files under limits of the system on memory (RLIMIT_AS): 32 MB, 64 MB, and
+so on, until a run answers. A run has to end with status 9 and nothing written, or with the answer of a run without a
+limit, and never by a signal. Prints for each file the greatest memory for a byte of it; the exit status is 1 where a
+run ended otherwise. As memory of a run the system counts at least that of this script, which is about 35 MB.
 
     PLANNER=.. reliability/memory_limits.py [--mebibytes N] [--worst N]
 
-The files have --mebibytes (4) MiB; the shape that took most memory is tried again with files of --worst (16) MiB, with fewer commands."""
+The files have --mebibytes (4) MiB; the shape that took most memory is tried again with files of --worst (16) MiB, with
+fewer commands."""
+from __future__ import annotations
+
 import argparse
 import collections
 import dataclasses
@@ -20,17 +23,21 @@ import tempfile
 
 import runs
 
+TYPE_CHECKING = False
+if TYPE_CHECKING:
+    from typing import Any, Iterable, Iterator, Sequence
+
 MB = 10**6
 FIRST_LIMIT = 32 * MB
 DEEPEST = 120
 
 
-def listed(item, size):
+def listed(item: str, size: int) -> str:
     """A list of so many equal items that it has about `size` bytes."""
     return "[" + ",".join([item] * (size // (len(item) + 1))) + "]"
 
 
-def members(size):
+def members(size: int) -> str:
     """An object of many members with short names, each another."""
     return "{" + ",".join(f'"{i:x}":0' for i in range(size // 11)) + "}"
 
@@ -53,20 +60,21 @@ WASTE = {
 }
 
 
-def listed_picks(count):
+def listed_picks(count: int) -> str:
     return "[" + ",".join(f"[{1 + i // 8192},{i % 8192},0,[]]" for i in range(count)) + "]"
 
 
-def change(i):
+def change(i: int) -> str:
     return (f'{{"do":"insert","switch":"s{1 + i % 4}","priority":{1 + i % 16383},"in_port":{1 + i // 16383 % 60000},'
             f'"dst":"10.0.{i % 256}.0/24","out":2}}')
 
 
-def plan_of(rounds, numberings, picks):
+def plan_of(rounds: str, numberings: str, picks: str) -> str:
     return f'{{"format":1,"kind":"ordered","befores":[],"numberings":{numberings},"picks":{picks},"rounds":{rounds}}}'
 
 
-# Those that are tried with every command; the others are tried with a topology of `config` and a plan of `check`, since all files are read alike.
+# Those that are tried with every command; the others are tried with a topology of `config` and a plan of `check`, since
+# all files are read alike.
 WITH_EVERY_COMMAND = ("lists of one number", "objects in objects", "members with long names")
 
 # Plans of the square network of about so many bytes that are nothing but what a plan may hold.
@@ -76,7 +84,9 @@ PLANS = {
     "many picks": lambda size: plan_of(listed("[]", 3 * 4200), "[[0,0,0,0]]", listed_picks(size // 15)),
 }
 SCHEDULES = {
-    "packets that go through": lambda size: "".join("enter s1:1 untagged 10.0.0.1\n" + f"hop {i}\n" * 4 for i in range(size // 70)),
+    "packets that go through": lambda size: "".join(
+        "enter s1:1 untagged 10.0.0.1\n" + f"hop {i}\n" * 4 for i in range(size // 70)
+    ),
     "packets that stay": lambda size: "enter s1:1 untagged 10.0.0.1\n" * (size // 29),
     "comments": lambda size: "#\n" * (size // 2),
 }
@@ -95,11 +105,13 @@ class Attack:
     shape: str
 
 
-def attacks(with_every_command):
+def attacks(with_every_command: Sequence[Any]) -> Iterator[Attack]:
     square = runs.update("square")
-    plan_words = [("check", *square, "plan.json"), ("upgrade", square[0], "plan.json"), ("emit", square[0], "plan.json"),
-                  ("simulate", *square, "plan.json", "0", "2"), ("replay", square[0], square[1], "plan.json", "square/schedule"),
-                  ("drive", *square, "plan.json", "square/input")]
+    plan_words = [
+        ("check", *square, "plan.json"), ("upgrade", square[0], "plan.json"), ("emit", square[0], "plan.json"),
+        ("simulate", *square, "plan.json", "0", "2"), ("replay", square[0], square[1], "plan.json", "square/schedule"),
+        ("drive", *square, "plan.json", "square/input"),
+    ]
     for shape in WASTE:
         yield Attack(("config", "topology.json", square[1], square[3]), "topology.json", shape)
         if shape not in with_every_command:
@@ -111,12 +123,15 @@ def attacks(with_every_command):
         yield from (Attack(words, "plan.json", shape) for words in plan_words)
     for shape in PLANS:
         yield from (Attack(words, "plan.json", shape) for words in plan_words)
-    yield from (Attack(("replay", square[0], square[1], "square/plan.json", "schedule"), "schedule", shape) for shape in SCHEDULES)
+    yield from (
+        Attack(("replay", square[0], square[1], "square/plan.json", "schedule"), "schedule", shape)
+        for shape in SCHEDULES
+    )
     yield from (Attack(("drive", *square, "square/plan.json", "input"), "input", shape) for shape in INPUTS)
     yield from (Attack(("import", square[0], "replies"), "replies", shape) for shape in REPLIES)
 
 
-def write(attack, folder, size):
+def write(attack: Attack, folder: pathlib.Path, size: int) -> int:
     """Writes the large file; answers its size."""
     if attack.shape in WASTE:
         example = (folder / "square" / attack.file).read_text().strip()
@@ -128,23 +143,30 @@ def write(attack, folder, size):
     return len(text)
 
 
-def run(program, words, folder, out, limit=None):
+def run(
+    program: str, words: tuple[str, ...], folder: pathlib.Path, out: pathlib.Path, limit: int | None = None
+) -> tuple[int, int]:
     """Runs the program, its text going to the file `out`; answers its status and its greatest memory in bytes."""
-    def set_limit():
+    def set_limit() -> None:
         if limit is not None:
             resource.setrlimit(resource.RLIMIT_AS, (limit, limit))
     with open(out, "wb") as text:
-        child = subprocess.Popen([program, *words], cwd=folder, stdin=subprocess.DEVNULL, stdout=text, stderr=subprocess.STDOUT, preexec_fn=set_limit)
+        child = subprocess.Popen(
+            [program, *words], cwd=folder, stdin=subprocess.DEVNULL, stdout=text, stderr=subprocess.STDOUT,
+            preexec_fn=set_limit,
+        )
         _, status, usage = os.wait4(child.pid, 0)
     child.returncode = os.waitstatus_to_exitcode(status)
     return child.returncode, usage.ru_maxrss * 1024
 
 
-def limited(program, attack, folder):
-    """Runs a command under ever greater limits; answers what was counted, the greatest memory, and the limit under which it answered."""
+def limited(program: str, attack: Attack, folder: pathlib.Path) -> tuple[collections.Counter[str], int, int]:
+    """Runs a command under ever greater limits; answers what was counted, the greatest memory, and the limit under
+    which it answered."""
     ample, out = folder / "ample", folder / "out"
     status, memory = run(program, attack.words, folder, ample)
-    found, limit = collections.Counter(), FIRST_LIMIT
+    found: collections.Counter[str] = collections.Counter()
+    limit = FIRST_LIMIT
     while True:
         ended, _ = run(program, attack.words, folder, out, limit)
         found["runs"] += 1
@@ -163,28 +185,40 @@ def limited(program, attack, folder):
         limit *= 2
 
 
-def attack_all(program, folder, chosen, size):
-    """Tries the attacks with files of a size; answers what was counted, and the attack that took the most memory for a byte."""
-    total, worst, most = collections.Counter(), None, 0.0
+def attack_all(
+    program: str, folder: pathlib.Path, chosen: Iterable[Attack], size: int
+) -> tuple[collections.Counter[str], Attack | None, float]:
+    """Tries the attacks with files of a size; answers what was counted, and the attack that took the most memory for a
+    byte."""
+    total: collections.Counter[str] = collections.Counter()
+    most = 0.0
+    worst = None
     for attack in chosen:
         length = write(attack, folder, size)
         found, memory, limit = limited(program, attack, folder)
         total += found
         ratio = memory / length
-        print(f"{attack.words[0]}, {attack.file} of {length / 2**20:.2f} MiB, {attack.shape}: {memory / MB:.0f} MB, {ratio:.1f} for a byte; "
-              f"{found['wanting']} runs with status 9, answered under {limit // MB} MB", flush=True)
+        print(
+            (
+                f"{attack.words[0]}, {attack.file} of {length / 2**20:.2f} MiB, {attack.shape}: {memory / MB:.0f} MB,"
+                f" {ratio:.1f} for a byte; {found['wanting']} runs with status 9, answered under {limit // MB} MB"
+            ),
+            flush=True,
+        )
         if length > size // 2 and ratio > most:
             worst, most = attack, ratio
     return total, worst, most
 
 
-def line(title, total, most):
-    return (f"{title}: {total['runs']} runs, {total['wanting']} status 9 and nothing written, "
-            f"{total['answered']} with the answer; answers changed {total['changed']}, bytes written too many {total['bytes']}, "
-            f"ended by a signal {total['signals']}; at most {most:.1f} bytes of memory for a byte of a file")
+def line(title: str, total: Any, most: float) -> str:
+    return (
+        f"{title}: {total['runs']} runs, {total['wanting']} status 9 and nothing written, {total['answered']} with the"
+        f" answer; answers changed {total['changed']}, bytes written too many {total['bytes']}, ended by a signal"
+        f" {total['signals']}; at most {most:.1f} bytes of memory for a byte of a file"
+    )
 
 
-def main():
+def main() -> None:
     parser = argparse.ArgumentParser()
     parser.add_argument("--mebibytes", type=int, default=4)
     parser.add_argument("--worst", type=int, default=16)
@@ -195,6 +229,7 @@ def main():
         runs.example_folder(folder)
         total, worst, most = attack_all(program, folder, attacks(WITH_EVERY_COMMAND), chosen.mebibytes * 2**20)
         print(line(f"files of {chosen.mebibytes} MiB", total, most), flush=True)
+        assert worst is not None
         again = [attack for attack in attacks(()) if attack.shape == worst.shape]
         more, _, most = attack_all(program, folder, again, chosen.worst * 2**20)
         print(line(f"{worst.shape}, files of {chosen.worst} MiB", more, most))

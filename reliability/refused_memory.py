@@ -1,11 +1,14 @@
 #!/usr/bin/env python3
-"""Runs each command over the example files with one allocation refused: the first, the second, and so on until a run meets none; each time
-once with that allocation alone refused, and once with all later ones refused too. A run has to end with status 9 and nothing written, or with
-the answer of a run in which nothing is refused. Prints what it found; the exit status is 1 where a run ended otherwise.
+"""Runs each command over the example files with one allocation refused: the first, the second, and so on until a run
+meets none; each time once with that allocation alone refused, and once with all later ones refused too. A run has to
+end with status 9 and nothing written, or with the answer of a run in which nothing is refused. Prints what it found;
+the exit status is 1 where a run ended otherwise.
 
     PLANNER=.. reliability/refused_memory.py [--every N] [--workers N]
 
 Up to allocation --every (5000) each one is refused; above it the number grows by a hundredth from run to run."""
+from __future__ import annotations
+
 import argparse
 import collections
 import concurrent.futures
@@ -15,11 +18,15 @@ import tempfile
 
 import runs
 
+TYPE_CHECKING = False
+if TYPE_CHECKING:
+    from typing import Iterator, Sequence
+
 MORE = [["sample", "16"], ["check", *runs.update("leaf-spine", "plan.json")], ["plan", *runs.update("leaf-spine")]]
 WANTING = runs.Answer(runs.MEMORY_WANTING, b"")
 
 
-def places(every):
+def places(every: int) -> Iterator[int]:
     """The numbers of the allocations that are refused."""
     at = 1
     while True:
@@ -27,17 +34,20 @@ def places(every):
         at += 1 if at < every else max(1, at // 100)
 
 
-def kind_of(ample, answer):
+def kind_of(ample: runs.Answer, answer: runs.Answer) -> str:
     """What a run in which an allocation was refused shows."""
     if answer == ample:
         return "answered"
     return "wanting" if answer == WANTING else "changed"
 
 
-def refuse_each(program, words, folder, library, every):
-    """All runs of one command: how many of each kind, the bytes written too many, and the last allocation that was refused."""
+def refuse_each(
+    program: str, words: Sequence[str], folder: pathlib.Path, library: str, every: int
+) -> collections.Counter[str]:
+    """All runs of one command: how many of each kind, the bytes written too many, and the last allocation that was
+    refused."""
     ample = runs.plain_run(program, words, folder)
-    found = collections.Counter()
+    found: collections.Counter[str] = collections.Counter()
     for at in places(every):
         for stay in (False, True):
             answer, met = runs.refused_run(program, words, folder, library, "memory", at, stay)
@@ -51,17 +61,22 @@ def refuse_each(program, words, folder, library, every):
             if kind == "changed":
                 found["bytes"] += len(answer.text) + len(answer.errors)
                 print(f"  {runs.title(words)}, allocation {at}: status {answer.status}, {len(answer.text)} bytes")
+    raise AssertionError("allocations are counted without an end")
 
 
-def line(title, found):
-    return (f"{title}: {found['runs']} runs, {found['wanting']} status 9 and nothing written, {found['answered']} with the answer; "
-            f"answers changed {found['changed']}, bytes written too many {found['bytes']}")
+def line(title: str, found: collections.Counter) -> str:
+    return (
+        f"{title}: {found['runs']} runs, {found['wanting']} status 9 and nothing written, {found['answered']} with the"
+        f" answer; answers changed {found['changed']}, bytes written too many {found['bytes']}"
+    )
 
 
-def attack(program, commands, folder, every, workers):
+def attack(
+    program: str, commands: Sequence[Sequence[str]], folder: pathlib.Path, every: int, workers: int
+) -> collections.Counter[str]:
     """Runs all commands; prints a line for each, and the sum, which it answers."""
     library = runs.library(folder)
-    total = collections.Counter()
+    total: collections.Counter[str] = collections.Counter()
     with concurrent.futures.ThreadPoolExecutor(workers) as pool:
         tasks = [pool.submit(refuse_each, program, words, folder, library, every) for words in commands]
         for words, task in zip(commands, tasks):
@@ -73,7 +88,7 @@ def attack(program, commands, folder, every, workers):
     return total
 
 
-def main():
+def main() -> None:
     parser = argparse.ArgumentParser()
     parser.add_argument("--every", type=int, default=5000)
     parser.add_argument("--workers", type=int, default=2)

@@ -1,4 +1,7 @@
-"""What the scripts of this folder share: the program, the commands over the example files, and a run of the program with one call refused."""
+"""What the scripts of this folder share: the program, the commands over the example files, and a run of the program
+with one call refused."""
+from __future__ import annotations
+
 import dataclasses
 import os
 import pathlib
@@ -6,6 +9,10 @@ import shutil
 import subprocess
 import sys
 import tempfile
+
+TYPE_CHECKING = False
+if TYPE_CHECKING:
+    from typing import Any, Sequence
 
 ROOT = pathlib.Path(__file__).resolve().parent.parent
 sys.path.insert(0, str(ROOT / "planner_tools" / "tests"))
@@ -31,8 +38,9 @@ class Answer:
     errors: bytes = b""
 
 
-def program():
-    """The built program: that of the variable PLANNER, or the repository's own, which is built where that of dist/ can't be run."""
+def program() -> str:
+    """The built program: that of the variable PLANNER, or the repository's own, which is built where that of dist/
+    can't be run."""
     named = os.environ.get("PLANNER")
     if named:
         return str(pathlib.Path(named).resolve())
@@ -41,19 +49,22 @@ def program():
     return own.built()
 
 
-def example_folder(folder):
+def example_folder(folder: pathlib.Path) -> None:
     """Copies the examples to the folder and writes the input of `drive`."""
     for name in ("square", "detour", "leaf-spine"):
         shutil.copytree(ROOT / "examples" / name, folder / name)
     (folder / "square" / "input").write_text(INPUT)
 
 
-def update(name, *more):
-    return [f"{name}/{file}" for file in ("topology.json", "old.json", "new.json", "policy.json")] + [f"{name}/{file}" for file in more]
+def update(name: str, *more: str) -> list[str]:
+    return [f"{name}/{file}" for file in ("topology.json", "old.json", "new.json", "policy.json")] + [
+        f"{name}/{file}" for file in more
+    ]
 
 
-def example_commands():
-    """Each command over the example files, as lists of words, but `serve`, which serve.py is about. One that isn't named here has a usual run."""
+def example_commands() -> Any:
+    """Each command over the example files, as lists of words, but `serve`, which serve.py is about. One that isn't
+    named here has a usual run."""
     commands = []
     for name in ("square", "detour"):
         topology, plan = f"{name}/topology.json", f"{name}/plan.json"
@@ -86,31 +97,40 @@ def example_commands():
     return commands + usual.of_others(commands, "square/")
 
 
-def title(words):
+def title(words: Sequence[str]) -> str:
     """A short name of a command: its word and the file that tells it from the others."""
     folder = words[1].split("/")[0]
     special = [word.split("/")[-1] for word in words if "at-once" in word or "two-waypoints" in word]
     return " ".join([words[0], folder, *special])
 
 
-def library(folder):
+def library(folder: pathlib.Path) -> str:
     """Compiles the library that refuses calls into the folder; answers its path."""
     built = folder / "refuse.so"
     subprocess.run(["cc", "-O2", "-Wall", "-fPIC", "-shared", "-o", str(built), str(LIBRARY_SOURCE)], check=True)
     return str(built)
 
 
-def plain_run(program_path, words, folder):
+def plain_run(program_path: str, words: Sequence[str], folder: pathlib.Path) -> Answer:
     """A run in which nothing is refused."""
-    done = subprocess.run([program_path, *words], cwd=folder, stdin=subprocess.DEVNULL, stdout=subprocess.PIPE, stderr=subprocess.PIPE)
+    done = subprocess.run(
+        [program_path, *words], cwd=folder, stdin=subprocess.DEVNULL, stdout=subprocess.PIPE, stderr=subprocess.PIPE
+    )
     return Answer(done.returncode, done.stdout, done.stderr)
 
 
-def refused_run(program_path, words, folder, library_path, what, at, stay=False, short=False):
+def refused_run(
+    program_path: str, words: Sequence[str], folder: pathlib.Path, library_path: str, what: str, at: int,
+    stay: bool = False, short: bool = False,
+) -> tuple[Answer, bool]:
     """A run in which call number `at` of a kind fails; answers how it ended, and whether it came to that call."""
     with tempfile.TemporaryFile() as report:
-        variables = {"LD_PRELOAD": library_path, "REFUSE_WHAT": what, "REFUSE_AT": str(at), "REFUSE_STAY": str(int(stay)),
-                     "REFUSE_SHORT": str(int(short)), "REFUSE_REPORT": str(report.fileno())}
-        done = subprocess.run([program_path, *words], cwd=folder, env=variables, pass_fds=[report.fileno()], stdin=subprocess.DEVNULL,
-                              stdout=subprocess.PIPE, stderr=subprocess.PIPE)
+        variables = {
+            "LD_PRELOAD": library_path, "REFUSE_WHAT": what, "REFUSE_AT": str(at), "REFUSE_STAY": str(int(stay)),
+            "REFUSE_SHORT": str(int(short)), "REFUSE_REPORT": str(report.fileno()),
+        }
+        done = subprocess.run(
+            [program_path, *words], cwd=folder, env=variables, pass_fds=[report.fileno()], stdin=subprocess.DEVNULL,
+            stdout=subprocess.PIPE, stderr=subprocess.PIPE,
+        )
         return Answer(done.returncode, done.stdout, done.stderr), os.fstat(report.fileno()).st_size > 0

@@ -124,7 +124,7 @@ def main(words):
         return 0 if words[:1] in (["--help"], ["-h"]) else 2
     try:
         built = files.program_to_install()
-    except program.NoProgram as fault:
+    except program.CannotRun as fault:
         print(f"debian.py: {fault}", file=sys.stderr)
         return program.NO_PROGRAM
     day, place = files.day_of(ROOT), words[0] if words else "."

@@ -28,7 +28,8 @@ class Lint(unittest.TestCase):
             return look(path)
 
     def test_what_is_found(self):
-        for text, words in (("x = 1 \n", "white space at its end"), ("if x is 1: pass\n", '"is" with'), ("def f(:\n", "it isn't Python"), ("x = 1" + " " * 240 + "# y\n", "more than 240 signs"),
+        for text, words in (("x = 1 \n", "white space at its end"), ("if x is 1: pass\n", '"is" with'), ("def f(:\n", "it isn't Python"), ("x = 1" + " " * 120 + "# y\n", "more than 120 signs"),
+                            ('"""' + "a " * 70 + '."""\n', "more than 120 signs"),
                             ("if x:\n\ty = 1\n", "a tab")):
             with self.subTest(words):
                 self.assertIn(words, " ".join(line for _, line in self.of(text, lint.of_python)))
@@ -40,6 +41,14 @@ class Lint(unittest.TestCase):
             with self.subTest(words):
                 self.assertIn(words, " ".join(self.of(text, lambda path: lint.of_names([path]))))
 
+    @unittest.skipUnless(shutil.which("mypy"), "mypy isn't on this machine")
+    def test_what_has_no_types_is_found(self):
+        for text, words in (("def f(x):\n    return x\n", "missing a type annotation"), ("def f(x: int) -> str:\n    return x\n", "Incompatible return value")):
+            with self.subTest(words), tempfile.TemporaryDirectory() as folder:
+                with open(os.path.join(folder, "one.py"), "w", encoding="utf-8") as file:
+                    file.write(text)
+                self.assertIn(words, " ".join(lint.types_in(folder, ["one.py"])))
+
     def test_what_is_used_is_not_found(self):
         text = "import os.path\nimport sys as system\nimport json  # noqa: F401\n\n\ndef f():\n    a = 1\n\n    def g():\n        return a\n    return g, os.path, system, f'{1:{a}}'\n"
         self.assertEqual([], self.of(text, lint.of_python))
@@ -48,8 +57,9 @@ class Lint(unittest.TestCase):
     def test_where_pyflakes_is_not_there_a_line_says_so(self):
         with unittest.mock.patch("lint.shutil.which", return_value=None), contextlib.redirect_stderr(io.StringIO()) as said:
             self.assertEqual([], self.of("import os\n", lambda path: lint.of_names([path])))
-            self.assertEqual([], lint.of_shell([]))
+            self.assertEqual([], lint.of_types() + lint.of_shell([]))
         self.assertEqual(["lint: pyflakes isn't on this machine, so what it finds is left out (Debian's package pyflakes3)",
+                          "lint: mypy isn't on this machine, so what it finds is left out (Debian's package mypy)",
                           "lint: shellcheck isn't on this machine, so what it finds is left out (Debian's package shellcheck)"], said.getvalue().splitlines())
 
 

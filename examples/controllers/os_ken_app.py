@@ -1,8 +1,8 @@
 """An os_ken application that leads a network from target to target: osken-manager os_ken_app.py
 
-The variable PLANNER_JOB names a file of JSON: `topology`, `policy`, `old` (what the switches have) and `targets` are names of files, `wait` is how many seconds a
-packet may be on its way, `datapaths` has the name of each switch by its datapath id, in 16 hexadecimal digits, and `keeps_tables` says whether a switch that
-lost its connection is known to have its table still."""
+The variable PLANNER_JOB names a file of JSON: `topology`, `policy`, `old` (what the switches have) and `targets` are
+names of files, a packet may be on its way for `wait` seconds, `datapaths` has the name of each switch by its datapath
+id, in 16 hexadecimal digits, and `keeps_tables` says whether a switch that lost its connection has its table still."""
 import json
 import os
 
@@ -15,7 +15,7 @@ from os_ken.ofproto import ofproto_v1_0
 
 import planner
 
-STANDS = 2.0         # how long a new connection has to stand before what was sent on the old one is known to be done or lost, in seconds
+STANDS = 2.0     # after so many seconds of a new connection what was sent on the old one is known to be done or lost
 
 
 class Updates(app_manager.OSKenApp):
@@ -29,7 +29,7 @@ class Updates(app_manager.OSKenApp):
         self.work = hub.spawn(self.lead)
 
     def send(self, name, data):
-        if name in self.datapaths and data[1] != 0:          # os_ken says HELLO itself, and answers requests for an echo
+        if name in self.datapaths and data[1] != 0:          # os_ken says HELLO itself
             self.datapaths[name].send(data)
 
     @set_ev_cls(ofp_event.EventOFPStateChange, [MAIN_DISPATCHER, DEAD_DISPATCHER])
@@ -54,18 +54,19 @@ class Updates(app_manager.OSKenApp):
         name = self.job["datapaths"].get(f"{event.msg.datapath.id:016x}")
         if self.session is not None and name is not None:
             for one in self.session.feed(name, bytes(event.msg.buf)).events:
-                self.logger.info("%s round %d %s %s %s", one.kind, one.round, one.switch or "", one.do or "", one.rule or one.cause or "")
+                told = one.kind, one.round, one.switch or "", one.do or "", one.rule or one.cause or ""
+                self.logger.info("%s round %d %s %s %s", *told)
 
     def lead(self):
         """Plans, carries out, and goes on to the next target."""
-        old = self.job["old"]
-        for target in self.job["targets"]:
-            answer = tpool.execute(planner.pack, self.job["topology"], old, target, self.job["policy"])
+        for old, target in zip([self.job["old"], *self.job["targets"]], self.job["targets"]):
+            files = self.job["topology"], old, target, self.job["policy"]
+            answer = tpool.execute(planner.pack, *files)
             if not answer:
                 return self.logger.error("%s", answer)
             while len(self.datapaths) < len(self.job["datapaths"]):
                 hub.sleep(0.1)
-            self.session = planner.Session(self.job["topology"], old, target, self.job["policy"], answer.plan, send=self.send)
+            self.session = planner.Session(*files, answer.plan, send=self.send)
             for name in self.datapaths:
                 self.session.feed(name, planner.HELLO)       # it came when the switch was connected
             while self.session.settled < self.session.rounds:
@@ -74,7 +75,6 @@ class Updates(app_manager.OSKenApp):
                 while self.session.is_running and not self.session.failed:
                     hub.sleep(0.02)
                 if self.session.failed:
-                    return self.logger.error("round %d isn't settled: %s", self.session.settled + 1, self.session.failed)
+                    return self.logger.error(f"round {self.session.settled + 1} isn't settled: {self.session.failed}")
             self.session = self.session.close()
-            old = target
             print(f"the switches have the tables of {target}", flush=True)

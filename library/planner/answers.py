@@ -1,4 +1,5 @@
-"""The answers of the planner's commands as values. They are made of what the front end writes with `--json`, whose schema stands in docs/FRONT_END.md."""
+"""The answers of the planner's commands as values. They are made of what the front end writes with `--json`, whose
+schema stands in docs/FRONT_END.md."""
 from __future__ import annotations
 
 import dataclasses
@@ -8,7 +9,7 @@ import subprocess
 import sys
 from typing import Any, Mapping
 
-from planner.programs import File, Files, front_end, program
+from planner.programs import File, Files, front_end, path
 
 # The exit statuses of an answer about the files. With all others nothing was found out about them.
 ANSWERS = (0, 1, 3, 4, 5, 8)
@@ -47,7 +48,8 @@ class Packet:
 
 @dataclasses.dataclass(frozen=True)
 class Reason:
-    """Why an answer isn't yes: its name as in docs/FORMATS.md, and what else the program's line has, as `round` and `switch`."""
+    """Why an answer isn't yes: its name as in docs/FORMATS.md, and what else the program's line has, as `round` and
+    `switch`."""
 
     name: str
     sentence: str | None
@@ -130,26 +132,42 @@ def packet_of(one: Mapping[str, Any]) -> Packet:
 
 
 def path_of(one: Mapping[str, Any]) -> Path:
-    return Path(one["file"], packet_of(one), tuple(Stop(it["switch"], it["port"], it["vlan"], it["rule"]) for it in one["stops"]), one["end"])
+    return Path(
+        one["file"], packet_of(one),
+        tuple(Stop(it["switch"], it["port"], it["vlan"], it["rule"]) for it in one["stops"]), one["end"],
+    )
 
 
 def reason_of(one: Mapping[str, Any] | None) -> Reason | None:
-    return None if one is None else Reason(one["name"], one.get("sentence"), {name: it for name, it in one.items() if name not in ("name", "sentence")})
+    return (
+        None
+        if one is None
+        else Reason(
+            one["name"], one.get("sentence"), {name: it for name, it in one.items() if name not in ("name", "sentence")}
+        )
+    )
 
 
 def answer_of(one: Mapping[str, Any]) -> Answer:
     """The answer of which an object is."""
-    return Answer(one["command"], one["status"], one["verdict"], one["answer"], reason_of(one["reason"]), packet_of(one["class"]) if one["class"] else None,
-                  tuple(map(path_of, one["paths"])), tuple(map(place_of, one["places"])), tuple(map(said_of, one["refusals"])),
-                  tuple(map(said_of, one["warnings"])), tuple(map(said_of, one["notes"])))
+    return Answer(
+        one["command"], one["status"], one["verdict"], one["answer"], reason_of(one["reason"]),
+        packet_of(one["class"]) if one["class"] else None, tuple(map(path_of, one["paths"])),
+        tuple(map(place_of, one["places"])), tuple(map(said_of, one["refusals"])), tuple(map(said_of, one["warnings"])),
+        tuple(map(said_of, one["notes"])),
+    )
 
 
 def ask(command: str, files: Mapping[str, File], *words: str) -> Answer:
-    """The answer of a command to some files, by the names by which they are told, and further words. Failed where there is none."""
+    """The answer of a command to some files, by the names by which they are told, and further words. Failed where there
+    is none."""
     given = Files(files)
     with given as names:
-        done = subprocess.run([sys.executable, "-I", front_end(), command, *names, *words, "--json"], cwd=given.folder, stdin=subprocess.DEVNULL, capture_output=True,
-                              text=True, errors="replace", check=False, env={**os.environ, "PLANNER": os.path.abspath(program()) if os.sep in program() else program()})
+        done = subprocess.run(
+            [sys.executable, "-I", front_end(), command, *names, *words, "--json"], cwd=given.folder,
+            stdin=subprocess.DEVNULL, capture_output=True, text=True, errors="replace", check=False,
+            env={**os.environ, "PLANNER": path()},
+        )
     try:
         answer = answer_of(json.loads(done.stdout))
     except (ValueError, KeyError, TypeError) as fault:
@@ -191,9 +209,13 @@ def explain(topology: File, old: File, new: File, policy: File, plan: File) -> A
 
 def config(topology: File, config: File, policy: File | None = None) -> Answer:
     """Whether each class of packets has a good path under a configuration."""
-    return ask("config", {"topology.json": topology, "config.json": config, **({"policy.json": policy} if policy is not None else {})})
+    return ask(
+        "config",
+        {"topology.json": topology, "config.json": config, **({"policy.json": policy} if policy is not None else {})},
+    )
 
 
 def configuration(topology: File, replies: File) -> Answer:
-    """The configuration that the switches have, by the flow statistics that they answered: the text that `planner import` reads."""
+    """The configuration that the switches have, by the flow statistics that they answered: the text that `planner
+    import` reads."""
     return ask("import", {"topology.json": topology, "replies": replies})

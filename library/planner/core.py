@@ -1,4 +1,5 @@
-"""What of a session needs neither processes nor sockets: which lines `planner serve` is given, and what its blocks say."""
+"""What of a session needs neither processes nor sockets: which lines `planner serve` is given, and what its blocks
+say."""
 from __future__ import annotations
 
 import dataclasses
@@ -29,8 +30,9 @@ class Message:
 
 @dataclasses.dataclass(frozen=True)
 class Event:
-    """What happened. The kinds are `started`, `turned`, `changed`, `undone`, `settled`, `taken back` and `failed`. A change that its switch has answered for
-    has the switch, what it does, and its rule; a failed session the switch and the cause."""
+    """What happened. The kinds are `started`, `turned`, `changed`, `undone`, `settled`, `taken back` and `failed`. A
+    change that its switch has answered for has the switch, what it does, and its rule; a failed session the switch and
+    the cause."""
 
     kind: str
     round: int
@@ -43,7 +45,8 @@ class Event:
 
 @dataclasses.dataclass(frozen=True)
 class Step:
-    """What follows from a call: messages to send, in their order, events, messages that are none of the session's business, and how far the update is."""
+    """What follows from a call: messages to send, in their order, events, messages that are none of the session's
+    business, and how far the update is."""
 
     messages: tuple[Message, ...]
     events: tuple[Event, ...]
@@ -54,8 +57,25 @@ class Step:
     is_back: bool
 
 
+@dataclasses.dataclass(frozen=True)
+class Reply:
+    """What `serve` answers to a line: the last line of its block, and what follows from it. Nothing does where the line
+    wasn't taken."""
+
+    line: str
+    last: str
+    messages: tuple[Message, ...] = ()
+    events: tuple[Event, ...] = ()
+
+    @property
+    def is_taken(self) -> bool:
+        """Whether the line was carried out."""
+        return self.last.startswith("ok ")
+
+
 class NotNow(Exception):
-    """A round can't begin, or be turned, now: `running`, `finished`, `begun` (nothing is) or `open` (the switch's session isn't)."""
+    """A round can't begin, or be turned, now: `running`, `finished`, `begun` (nothing is) or `open` (the switch's
+    session isn't)."""
 
     def __init__(self, why: str, switch: str | None = None):
         super().__init__(why if switch is None else f"{why}: {switch}")
@@ -71,12 +91,39 @@ class Refused(Exception):
 
 
 class ServeEnded(Exception):
-    """`planner serve` ended, or didn't answer in time. What follows from the call isn't known: go on by the record, in a new session."""
+    """`planner serve` ended, or didn't answer in time. What follows from the call isn't known: go on by the record, in
+    a new session. Where it ended, its exit status, and what it had said of a block by then."""
+
+    def __init__(self, words: str, status: int | None = None, text: str = ""):
+        super().__init__(words)
+        self.status, self.text = status, text
+
+
+def end_of(status: int, text: str) -> Refused | ServeEnded:
+    """What an end of `serve` is, by its exit status and what it said."""
+    if status in (1, 2, 3):
+        return Refused(status, text)
+    return ServeEnded(
+        f"`planner serve` ended with status {status}{': ' + text.strip() if text.strip() else ''}", status, text
+    )
+
+
+def checked(reply: Reply) -> Reply:
+    """A reply to a line that was taken. NotNow, or ValueError, where it wasn't."""
+    if reply.last.startswith("no "):
+        raise NotNow(*reply.last.split(" ")[1:])
+    if not reply.is_taken:
+        raise ValueError(f"`planner serve` answers `{reply.last}` to `{reply.line[:60]}`")
+    return reply
+
+
+def xid_of(message: bytes) -> int:
+    return int.from_bytes(message[4:8], "big")
 
 
 def is_own(message: bytes) -> bool:
     """Whether a message has an xid of the controller's own."""
-    return len(message) >= 8 and int.from_bytes(message[4:8], "big") in OWN_XIDS
+    return len(message) >= 8 and xid_of(message) in OWN_XIDS
 
 
 def is_header(data: bytes) -> bool:
@@ -85,7 +132,8 @@ def is_header(data: bytes) -> bool:
 
 
 def cut(data: bytes) -> tuple[list[bytes], bytes]:
-    """The whole messages at the beginning of some bytes, and the rest. From a header on that is none, all bytes are one message."""
+    """The whole messages at the beginning of some bytes, and the rest. From a header on that is none, all bytes are one
+    message."""
     messages: list[bytes] = []
     at = 0
     while len(data) - at >= 8:
@@ -108,12 +156,16 @@ def rounds_of(plan: bytes) -> list[list[Change]]:
     """The changes of each round of a plan, each with its rule."""
     held = json.loads(plan)
     if held["format"] == 1:
-        return [[(one["do"], {name: it for name, it in one.items() if name != "do"}) for one in changes] for changes in held["rounds"]]
+        return [
+            [(one["do"], {name: it for name, it in one.items() if name != "do"}) for one in changes]
+            for changes in held["rounds"]
+        ]
     return [[(do, held["rules"][number]) for do, number in changes] for changes in held["rounds"]]
 
 
 class Core:
-    """How far the update is, which sessions are open or have failed, and who owes an answer, by what `serve` has said."""
+    """How far the update is and which way it goes, which sessions are open or have failed, who owes an answer, and what
+    of each round is in force, by what `serve` has said."""
 
     def __init__(self, plan: list[list[Change]]):
         self.plan = plan
@@ -121,7 +173,19 @@ class Core:
         self.rest: dict[str, bytes] = {}         # by switch: the beginning of a message
         self.open: set[str] = set()
         self.failed: dict[str, str] = {}         # by switch: the cause for which its session failed
-        self.due: dict[str, list[int]] = {}      # by switch: the xids of the barrier requests on its session that aren't answered
+        self.failures = 0                        # how many sessions have failed so far
+        # by switch: the xids of the barrier requests on its session that aren't answered
+        self.due: dict[str, list[int]] = {}
+        # by switch: its flow messages of the running round, by their xids
+        self.sent: dict[str, dict[int, bytes]] = {}
+        # whether a round was started; how many were settled, and undone
+        self.begun, self.carried_out, self.undone = False, 0, 0
+        # of each round that is settled or runs the changes in force, in their order
+        self.history: list[list[int]] = []
+
+    def number(self) -> int:
+        """The number of the running round, or of the one that was settled last."""
+        return self.settled + self.is_running
 
     def owing(self) -> set[str]:
         """The switches that hold up the running round: they owe an answer, or their session failed."""
@@ -136,7 +200,8 @@ class Core:
             self.rest[switch] = rest
         for one in messages:
             is_good = is_header(one[:8])
-            yield one if is_good else one[:PIECE], not is_good or self.is_fed(switch, one)       # by a bad header the session fails
+            # by a bad header the session fails
+            yield one if is_good else one[:PIECE], not is_good or self.is_fed(switch, one)
 
     def is_fed(self, switch: str, message: bytes) -> bool:
         if switch not in self.open:
@@ -150,13 +215,11 @@ class Core:
 
     # ---- what is answered
 
-    def take(self, line: str, block: list[str]) -> tuple[list[Message], list[Event]]:
+    def take(self, line: str, block: list[str]) -> Reply:
         """Takes a line that was given and its block."""
         *told, last = block
-        if last.startswith("no "):
-            raise NotNow(*last.split(" ")[1:])
         if not last.startswith("ok "):
-            raise ValueError(f"`planner serve` answers `{last}` to `{line[:60]}`")
+            return Reply(line, last)
         words = line.split(" ")
         round_ = self.settled + (self.is_running or words[0] == "start")
         was_turned = words[0] == "back" and self.is_running
@@ -168,10 +231,11 @@ class Core:
         _, state, number, _, rounds = last.split(" ")
         self.is_running, self.rounds = state == "running", int(rounds)
         self.settled = int(number) - self.is_running
-        return messages, events
+        return Reply(line, last, tuple(messages), tuple(events))
 
     def take_line(self, words: list[str]) -> None:
         if words[0] in ("start", "back"):
+            self.sent = {}
             self.is_back = words[0] == "back"
         elif words[0] == "reopen":
             self.open.discard(words[1])
@@ -181,31 +245,70 @@ class Core:
             self.take_message(words[1], bytes.fromhex(words[2]))
 
     def take_message(self, switch: str, message: bytes) -> None:
+        if len(message) < 8:
+            return
         if message[1] == TYPE_HELLO:
             self.open.add(switch)
-        elif message[1] == TYPE_BARRIER_REPLY and self.due.get(switch, [])[:1] == [int.from_bytes(message[4:8], "big")]:
+        elif message[1] == TYPE_BARRIER_REPLY and self.due.get(switch, [])[:1] == [xid_of(message)]:
             del self.due[switch][0]
 
     def take_told(self, words: list[str], round_: int, messages: list[Message], events: list[Event]) -> None:
         if words[0] == "send":
-            message = Message(words[1], bytes.fromhex(words[2]))
-            messages.append(message)
-            if message.data[1] == TYPE_BARRIER_REQUEST:
-                self.due.setdefault(words[1], []).append(int.from_bytes(message.data[4:8], "big"))
+            messages.append(Message(words[1], bytes.fromhex(words[2])))
+            self.note_sent(words[1], messages[-1].data)
         elif words[0] == "failed":
             self.failed[words[1]], self.due[words[1]] = " ".join(words[2:]), []
+            self.failures += 1
             self.open.discard(words[1])
             events.append(Event("failed", round_, switch=words[1], cause=" ".join(words[2:])))
         elif words[0] in ("change", "undo"):
             do, rule = self.plan[round_ - 1][int(words[1])]
-            events.append(Event("changed" if words[0] == "change" else "undone", round_, rule["switch"], do, rule, int(words[1])))
+            events.append(
+                Event("changed" if words[0] == "change" else "undone", round_, rule["switch"], do, rule, int(words[1]))
+            )
         elif words[0] == "settle":
             events.append(Event("taken back" if self.is_back else "settled", round_))
         else:
             events.append(Event({"start": "started", "back": "turned"}[words[0]], round_))
+        self.note_event(words)
+
+    def note_sent(self, switch: str, message: bytes) -> None:
+        if message[1] == TYPE_BARRIER_REQUEST:
+            self.due.setdefault(switch, []).append(xid_of(message))
+        elif message[1] == TYPE_FLOW_MOD:
+            self.sent.setdefault(switch, {})[xid_of(message)] = message
+
+    def note_event(self, words: list[str]) -> None:
+        """Notes what of each round is in force."""
+        if words[0] == "start":
+            self.begun = True
+            self.history.append([])
+        elif words[0] == "change":
+            self.history[-1].append(int(words[1]))
+        elif words[0] == "undo":
+            self.history[-1].remove(int(words[1]))
+        elif words[0] == "settle" and self.is_back:
+            self.history.pop()
+            self.undone += 1
+        elif words[0] == "settle":
+            self.carried_out += 1
+
+    def schedule(self) -> str:
+        """The events that lead to the present state, as a schedule. Of a round that is being undone it has no change,
+        so each of them is pending."""
+        lines: list[str] = []
+        for number, changes in enumerate(self.history, 1):
+            is_settled = number <= self.settled
+            lines += [
+                "start", *(f"change {one}" for one in changes if is_settled or not self.is_back),
+                *(["settle"] if is_settled else []),
+            ]
+        return "".join(f"{line}\n" for line in lines)
 
     def step(self, messages: list[Message], events: list[Event], others: list[Message]) -> Step:
-        return Step(tuple(messages), tuple(events), tuple(others), self.settled, self.rounds, self.is_running, self.is_back)
+        return Step(
+            tuple(messages), tuple(events), tuple(others), self.settled, self.rounds, self.is_running, self.is_back
+        )
 
 
 def named(switch: str) -> str:

@@ -17,7 +17,8 @@ class NoProgram(Exception):
 
 
 def home() -> pathlib.Path | None:
-    """The folder of the front end: the checkout or the installation in which this package is, or that of the command `planner` on the path."""
+    """The folder of the front end: the checkout or the installation in which this package is, or that of the command
+    `planner` on the path."""
     beside = pathlib.Path(__file__).resolve().parents[2]
     found = shutil.which("planner")
     for one in (beside, pathlib.Path(found).resolve().parent if found else None):
@@ -27,7 +28,8 @@ def home() -> pathlib.Path | None:
 
 
 def program() -> str:
-    """The path of the proved program: what the variable PLANNER names, otherwise the one that was built or installed. Nothing is built."""
+    """The path of the proved program: what the variable PLANNER names, otherwise the one that was built or installed.
+    Nothing is built."""
     at = home()
     named = os.environ.get("PLANNER")
     if named and (at is None or pathlib.Path(named).resolve() != at / "planner"):
@@ -36,6 +38,11 @@ def program() -> str:
         if os.access(one, os.X_OK):
             return str(one)
     raise NoProgram("the program `planner` isn't there: install it, or name it by the variable PLANNER")
+
+
+def path() -> str:
+    """The path of the program, from any folder."""
+    return os.path.abspath(program()) if os.sep in program() else program()
 
 
 def front_end() -> str:
@@ -47,14 +54,17 @@ def front_end() -> str:
 
 
 class Files:
-    """The files of a run. What isn't in a file yet is written into a folder that is there as long as this is entered."""
+    """The files of a run. What isn't in a file yet is written into a folder that is there as long as this is entered.
+    Where `is_apart`, the folder is there in any case, and the run is to be in it; otherwise only where something has to
+    be written."""
 
-    def __init__(self, given: Mapping[str, File]):
-        self.given = given
+    def __init__(self, given: Mapping[str, File], is_apart: bool = True):
+        self.given, self.is_apart = given, is_apart
         self.room: tempfile.TemporaryDirectory[str] | None = None
 
     def __enter__(self) -> list[str]:
-        self.room = tempfile.TemporaryDirectory(prefix="planner-")
+        if self.is_apart or not all(map(is_path, self.given.values())):
+            self.room = tempfile.TemporaryDirectory(prefix="planner-")
         return [self.name_of(name, file) for name, file in self.given.items()]
 
     def __exit__(self, *_: object) -> None:
@@ -62,17 +72,22 @@ class Files:
             self.room.cleanup()
 
     @property
-    def folder(self) -> str:
-        """The folder of what was written. Names of files in it have no folder, so that they are told as they are."""
-        assert self.room is not None
-        return self.room.name
+    def folder(self) -> str | None:
+        """The folder of what was written, or None. Names of files in it have no folder, so that they are told as they
+        are."""
+        return self.room.name if self.room is not None else None
 
     def name_of(self, name: str, file: File) -> str:
         if isinstance(file, (str, os.PathLike)):
-            return os.path.abspath(file)
+            return os.fspath(file) if self.folder is None else os.path.abspath(file)
+        assert self.folder is not None
         with open(os.path.join(self.folder, name), "wb") as made:
             made.write(bytes_of(file))
         return name
+
+
+def is_path(file: File) -> bool:
+    return isinstance(file, (str, os.PathLike))
 
 
 def bytes_of(file: File) -> bytes:

@@ -25,10 +25,16 @@ def dicts(folder):
 
 class Answers(unittest.TestCase):
     def test_a_plan_of_files_and_of_dicts(self):
-        for files in (paths(SQUARE), [str(one) for one in paths(SQUARE)], dicts(SQUARE), [one.read_bytes() for one in paths(SQUARE)]):
+        for files in (
+            paths(SQUARE), [str(one) for one in paths(SQUARE)], dicts(SQUARE),
+            [one.read_bytes() for one in paths(SQUARE)],
+        ):
             answer = planner.pack(*files)
             self.assertTrue(answer)
-            self.assertEqual(("pack", 0, "planned", None, None), (answer.command, answer.status, answer.verdict, answer.reason, answer.packet))
+            self.assertEqual(
+                ("pack", 0, "planned", None, None),
+                (answer.command, answer.status, answer.verdict, answer.reason, answer.packet),
+            )
             self.assertEqual(2, len(answer.plan["rounds"]))
         checked = planner.check(*dicts(SQUARE), answer.plan)
         self.assertEqual((True, "accepted"), (bool(checked), checked.verdict))
@@ -38,9 +44,14 @@ class Answers(unittest.TestCase):
     def test_a_refusal_has_its_reason_and_paths(self):
         answer = planner.check(*dicts(SQUARE), SQUARE / "plan-at-once.json")
         self.assertFalse(answer)
-        self.assertEqual(("refused", "NotLower", {"number": 7, "round": 1, "switch": "s3"}), (answer.verdict, answer.reason.name, answer.reason.parts))
+        self.assertEqual(
+            ("refused", "NotLower", {"number": 7, "round": 1, "switch": "s3"}),
+            (answer.verdict, answer.reason.name, answer.reason.parts),
+        )
         self.assertEqual(planner.Packet("s1:1", "untagged", "10.0.0.0"), answer.packet)
-        self.assertEqual([["s1", "s2", "s3", "s4"], ["s1", "s4"]], [[stop.switch for stop in one.stops] for one in answer.paths])
+        self.assertEqual(
+            [["s1", "s2", "s3", "s4"], ["s1", "s4"]], [[stop.switch for stop in one.stops] for one in answer.paths]
+        )
         self.assertEqual(["old.json", "new.json"], [one.file for one in answer.paths])
         self.assertEqual(("policy.json", "demands[0]"), (answer.places[0].file, answer.places[0].member))
         self.assertTrue(str(answer).startswith(answer.reason.sentence))
@@ -56,7 +67,10 @@ class Answers(unittest.TestCase):
         topology, old, new, policy = dicts(SQUARE)
         del old["rules"][0]["dst"]
         answer = planner.pack(topology, old, new, policy)
-        self.assertEqual((3, "bad file", "Shape", "old"), (answer.status, answer.verdict, answer.reason.name, answer.reason.parts["file"]))
+        self.assertEqual(
+            (3, "bad file", "Shape", "old"),
+            (answer.status, answer.verdict, answer.reason.name, answer.reason.parts["file"]),
+        )
         self.assertEqual("old.json", answer.places[0].file)
         answer = planner.config(DETOUR / "topology.json", DETOUR / "old.json", DETOUR / "policy-thru.json")
         self.assertEqual((True, "holds"), (bool(answer), answer.verdict))
@@ -67,7 +81,9 @@ class Answers(unittest.TestCase):
         made = planner.plan(topology, old, new, policy).plan
         bare = {**made, "numberings": [], "befores": [], "uses": [], "picks": []}
         self.assertEqual("NoNumbering", planner.check(topology, old, new, policy, bare).reason.name)
-        self.assertTrue(planner.check(topology, old, new, policy, planner.certify(topology, old, new, policy, bare).plan))
+        self.assertTrue(
+            planner.check(topology, old, new, policy, planner.certify(topology, old, new, policy, bare).plan)
+        )
         answer = planner.configuration(topology, SQUARE / "replies-s1")
         self.assertEqual(["s1"], sorted({one["switch"] for one in answer.answer["rules"]}))
 

@@ -1,4 +1,5 @@
-"""The controllers of examples/controllers, each at most 80 lines, with switches in Python. PLANNER names the program."""
+"""The controllers of examples/controllers, each at most 80 lines, with switches in Python. PLANNER names the
+program."""
 import json
 import os
 import pathlib
@@ -17,18 +18,30 @@ from network import DATAPATHS  # noqa: E402
 
 CONTROLLERS, EXAMPLES = ROOT / "examples" / "controllers", ROOT / "examples"
 LONGEST = 240
-SITUATION = {**os.environ, "PYTHONPATH": os.pathsep.join([str(ROOT / "library"), *os.environ.get("PYTHONPATH", "").split(os.pathsep)]), "PYTHONDONTWRITEBYTECODE": "1"}
+SITUATION = {
+    **os.environ,
+    "PYTHONPATH": os.pathsep.join([str(ROOT / "library"), *os.environ.get("PYTHONPATH", "").split(os.pathsep)]),
+    "PYTHONDONTWRITEBYTECODE": "1",
+}
 
 
 def has_os_ken():
     """Whether os_ken is there, and can be imported."""
-    return subprocess.run([sys.executable, "-c", "import os_ken.base.app_manager"], capture_output=True, check=False).returncode == 0
+    return (
+        subprocess.run(
+            [sys.executable, "-c", "import os_ken.base.app_manager"], capture_output=True, check=False
+        ).returncode
+        == 0
+    )
 
 
 def has(switches, name, config):
     """Whether the switches have exactly the rules of a configuration."""
     wanted = fake_switch.switches_of(DATAPATHS[name], config, None)
-    return all({key: it[2] for key, it in one.table.items()} == {key: it[2] for key, it in wanted[label].table.items()} for label, one in switches.items())
+    return all(
+        {key: it[2] for key, it in one.table.items()} == {key: it[2] for key, it in wanted[label].table.items()}
+        for label, one in switches.items()
+    )
 
 
 class Controllers(unittest.TestCase):
@@ -42,8 +55,14 @@ class Controllers(unittest.TestCase):
     def sockets(self, name, switches, *targets):
         folder = EXAMPLES / name
         places = [f"{label}={one.address[0]}:{one.address[1]}" for label, one in switches.items()]
-        words = [CONTROLLERS / "sockets.py", folder / "topology.json", folder / "policy.json", "0.05", *places, "--", *targets]
-        done = subprocess.run([sys.executable, *map(str, words)], capture_output=True, text=True, timeout=LONGEST, check=False, env=SITUATION)
+        words = [
+            CONTROLLERS / "sockets.py", folder / "topology.json", folder / "policy.json", "0.05", *places, "--",
+            *targets,
+        ]
+        done = subprocess.run(
+            [sys.executable, *map(str, words)], capture_output=True, text=True, timeout=LONGEST, check=False,
+            env=SITUATION,
+        )
         return done.returncode, done.stdout, done.stderr
 
     def test_each_has_at_most_80_lines(self):
@@ -51,12 +70,15 @@ class Controllers(unittest.TestCase):
             self.assertLessEqual(len(path.read_text(encoding="utf-8").splitlines()), 80, path)
 
     def test_sockets_goes_from_target_to_target(self):
-        """There and back, in one process; the second plan is made from what the switches have then. Answers come in small pieces, with echoes between."""
+        """There and back, in one process; the second plan is made from what the switches have then. Answers come in
+        small pieces, with echoes between."""
         for name in ("square", "detour"):
             with self.subTest(name):
                 folder = EXAMPLES / name
                 switches = self.switches(name, listen=True, piece=5, echo=0.2)
-                status, text, said = self.sockets(name, switches, folder / "new.json", folder / "old.json", folder / "new.json")
+                status, text, said = self.sockets(
+                    name, switches, folder / "new.json", folder / "old.json", folder / "new.json"
+                )
                 self.assertEqual((0, ""), (status, said))
                 self.assertEqual(3, text.count("the switches have the tables of "))
                 self.assertTrue(has(switches, name, folder / "new.json"))
@@ -83,17 +105,29 @@ class Controllers(unittest.TestCase):
         square = EXAMPLES / "square"
         with fake_switch.socket.create_server(("127.0.0.1", 0)) as free:
             address = free.getsockname()
-        job = {"topology": str(square / "topology.json"), "policy": str(square / "policy.json"), "old": str(square / "old.json"), "wait": 0.05,
-               "targets": [str(square / "new.json"), str(square / "old.json"), str(square / "new.json")],
-               "datapaths": {f"{datapath:016x}": name for name, datapath in DATAPATHS["square"].items()}}
+        job = {
+            "topology": str(square / "topology.json"), "policy": str(square / "policy.json"),
+            "old": str(square / "old.json"), "wait": 0.05,
+            "targets": [str(square / "new.json"), str(square / "old.json"), str(square / "new.json")],
+            "datapaths": {f"{datapath:016x}": name for name, datapath in DATAPATHS["square"].items()},
+        }
         (folder / "job.json").write_text(json.dumps(job))
         switches = self.switches("square", address)
-        words = [sys.executable, "-m", "os_ken.cmd.manager", "--ofp-listen-host", address[0], "--ofp-tcp-listen-port", str(address[1]), str(CONTROLLERS / "os_ken_app.py")]
+        words = [
+            sys.executable, "-m", "os_ken.cmd.manager", "--ofp-listen-host", address[0], "--ofp-tcp-listen-port",
+            str(address[1]), str(CONTROLLERS / "os_ken_app.py"),
+        ]
         with open(folder / "said", "wb") as said:
-            run = subprocess.Popen(words, stdout=said, stderr=said, env={**SITUATION, "PLANNER_JOB": str(folder / "job.json")})
+            run = subprocess.Popen(
+                words, stdout=said, stderr=said, env={**SITUATION, "PLANNER_JOB": str(folder / "job.json")}
+            )
         self.addCleanup(lambda: (run.kill(), run.wait()))
         until = time.monotonic() + LONGEST
-        while time.monotonic() < until and run.poll() is None and (folder / "said").read_text().count("the switches have the tables of ") < 3:
+        while (
+            time.monotonic() < until
+            and run.poll() is None
+            and (folder / "said").read_text().count("the switches have the tables of ") < 3
+        ):
             time.sleep(0.05)
         text = (folder / "said").read_text()
         self.assertEqual(3, text.count("the switches have the tables of "), text)

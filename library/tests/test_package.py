@@ -33,8 +33,10 @@ class Packages(unittest.TestCase):
 
     def tried(self, path, **more):
         """What the first steps print with the package at a path, and no more than these variables."""
-        done = subprocess.run([sys.executable, "-c", TRIES, str(ROOT / "examples" / "square")], capture_output=True, text=True, check=False, cwd=self.folder.name,
-                              env={"PYTHONPATH": str(path), "PATH": os.environ["PATH"], **more})
+        done = subprocess.run(
+            [sys.executable, "-c", TRIES, str(ROOT / "examples" / "square")], capture_output=True, text=True,
+            check=False, cwd=self.folder.name, env={"PYTHONPATH": str(path), "PATH": os.environ["PATH"], **more},
+        )
         return done.stdout + done.stderr
 
     def test_an_installation_has_it(self):
@@ -42,10 +44,12 @@ class Packages(unittest.TestCase):
         files.put(prefix, str(ROOT), shutil.which(program.path()) or program.path(), "2026-12-01")
         self.assertEqual(f"{version.VERSION} accepted s1\n", self.tried(os.path.join(prefix, files.LIBRARY, "library")))
 
+    @unittest.skipUnless(shutil.which("mypy"), "mypy isn't on this machine")
     def test_its_types_agree(self):
-        if importlib.util.find_spec("mypy") is None:
-            self.skipTest("mypy isn't there")
-        done = subprocess.run([sys.executable, "-m", "mypy", "--strict", "--cache-dir", self.folder.name, "planner"], capture_output=True, text=True, check=False, cwd=ROOT / "library")
+        done = subprocess.run(
+            ["mypy", "--strict", "--cache-dir", self.folder.name, "planner"], capture_output=True, text=True,
+            check=False, cwd=ROOT / "library",
+        )
         self.assertEqual(0, done.returncode, done.stdout)
 
     def test_pip_installs_it(self):
@@ -53,14 +57,24 @@ class Packages(unittest.TestCase):
             self.skipTest("pip, setuptools or wheel isn't there")
         target, source = os.path.join(self.folder.name, "target"), os.path.join(self.folder.name, "source")
         shutil.copytree(ROOT / "library", source, ignore=shutil.ignore_patterns("__pycache__", "tests"))
-        done = subprocess.run([sys.executable, "-m", "pip", "install", "-q", "--no-index", "--no-deps", "--no-build-isolation", "--target", target, source], capture_output=True,
-                              text=True, check=False)
+        done = subprocess.run(
+            [
+                sys.executable, "-m", "pip", "install", "-q", "--no-index", "--no-deps", "--no-build-isolation",
+                "--target", target, source,
+            ],
+            capture_output=True, text=True, check=False,
+        )
         self.assertEqual(0, done.returncode, done.stderr)
         self.assertTrue(os.path.exists(os.path.join(target, "planner", "py.typed")))
         commands = os.path.join(self.folder.name, "bin")
         os.makedirs(commands)
         os.symlink(ROOT / "planner", os.path.join(commands, "planner"))
-        self.assertEqual(f"{version.VERSION} accepted s1\n", self.tried(target, PATH=f"{commands}{os.pathsep}{os.environ['PATH']}", PLANNER=os.path.abspath(program.path())))
+        self.assertEqual(
+            f"{version.VERSION} accepted s1\n",
+            self.tried(
+                target, PATH=f"{commands}{os.pathsep}{os.environ['PATH']}", PLANNER=os.path.abspath(program.path())
+            ),
+        )
 
 
 if __name__ == "__main__":

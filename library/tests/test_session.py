@@ -1,4 +1,5 @@
-"""Sessions over `planner serve`, for threads and for asyncio, with switches that are functions. PLANNER names the program."""
+"""Sessions over `planner serve`, for threads and for asyncio, with switches that are functions. PLANNER names the
+program."""
 import asyncio
 import json
 import os
@@ -68,10 +69,21 @@ class Sessions(unittest.TestCase):
                 while session.settled < session.rounds:
                     answered(session, session.start(), events)
                 plan = json.loads((folder / "plan.json").read_text())
-                changes = [(round_, plan["rules"][number]) for round_, those in enumerate(plan["rounds"], 1) for _, number in those]
+                changes = [
+                    (round_, plan["rules"][number])
+                    for round_, those in enumerate(plan["rounds"], 1)
+                    for _, number in those
+                ]
                 changed = [one for one in events if one.kind == "changed"]
-                self.assertEqual(sorted(changes, key=repr), sorted([(one.round, dict(one.rule)) for one in changed], key=repr))
-                self.assertTrue(all(one.switch == one.rule["switch"] and plan["rounds"][one.round - 1][one.change][0] == one.do for one in changed))
+                self.assertEqual(
+                    sorted(changes, key=repr), sorted([(one.round, dict(one.rule)) for one in changed], key=repr)
+                )
+                self.assertTrue(
+                    all(
+                        one.switch == one.rule["switch"] and plan["rounds"][one.round - 1][one.change][0] == one.do
+                        for one in changed
+                    )
+                )
                 self.assertEqual(list(range(1, rounds + 1)), [one.round for one in events if one.kind == "settled"])
                 with self.assertRaises(planner.NotNow) as refused:
                     session.start()
@@ -91,7 +103,10 @@ class Sessions(unittest.TestCase):
         self.assertEqual(["s1", "s1"], [one.switch for one in step.messages])
         self.assertEqual(frozenset(["s1"]), session.owing)
         turned, events = session.back(), []
-        self.assertEqual(([("turned", 1)], True, True), ([(one.kind, one.round) for one in turned.events], turned.is_running, turned.is_back))
+        self.assertEqual(
+            ([("turned", 1)], True, True),
+            ([(one.kind, one.round) for one in turned.events], turned.is_running, turned.is_back),
+        )
         for one in (step.messages[-1], turned.messages[-1]):
             events += session.feed("s1", reply(one.data)).events
         self.assertEqual([("changed", 1), ("undone", 1), ("taken back", 1)][-1], (events[-1].kind, events[-1].round))
@@ -101,7 +116,13 @@ class Sessions(unittest.TestCase):
         session = self.open(SQUARE)
         sent = session.start().messages
         packet_in = bytes([1, 10, 0, 12]) + bytes(8)
-        data = own(reply(sent[-1].data)) + packet_in + own(error(0)) + bytes([1, 2, 0, 9, 0, 0, 0, 5, 77]) + reply(sent[-1].data)
+        data = (
+            own(reply(sent[-1].data))
+            + packet_in
+            + own(error(0))
+            + bytes([1, 2, 0, 9, 0, 0, 0, 5, 77])
+            + reply(sent[-1].data)
+        )
         others, replies, events = [], [], []
         for at in range(len(data)):
             step = session.feed("s1", data[at:at + 1])
@@ -116,7 +137,9 @@ class Sessions(unittest.TestCase):
         session = self.open(SQUARE)
         sent = session.start().messages
         step = session.feed("s1", error(struct.unpack("!I", sent[0].data[4:8])[0]))
-        self.assertEqual([("failed", 1, "s1", "Error 3 0")], [(one.kind, one.round, one.switch, one.cause) for one in step.events])
+        self.assertEqual(
+            [("failed", 1, "s1", "Error 3 0")], [(one.kind, one.round, one.switch, one.cause) for one in step.events]
+        )
         self.assertEqual(({"s1": "Error 3 0"}, frozenset(["s1"])), (session.failed, session.owing))
         self.assertEqual((), session.feed("s1", reply(sent[-1].data)).events)
         self.assertEqual([planner.HELLO], [one.data for one in session.reopen("s1").messages])
@@ -136,7 +159,8 @@ class Sessions(unittest.TestCase):
                     session.feed(name, planner.HELLO)
 
     def test_send_is_called_in_order_from_many_threads(self):
-        """Each switch has a thread. What is sent is what one thread would send, and the rounds come one behind the other."""
+        """Each switch has a thread. What is sent is what one thread would send, and the rounds come one behind the
+        other."""
         told, work = [], {name: queue.Queue() for name in switches(DETOUR)}
 
         def send(name, data):
@@ -164,8 +188,12 @@ class Sessions(unittest.TestCase):
             one.put(None)
         for one in threads:
             one.join(LONGEST)
-        emitted = planner.ask("emit", {"topology.json": DETOUR / "topology.json", "plan.json": DETOUR / "plan.json"}).answer.split("\n")[:-1]
-        self.assertEqual([(line.split()[1], line.split()[2]) for line in emitted], [(name, data.hex()) for name, data in told])
+        emitted = planner.ask(
+            "emit", {"topology.json": DETOUR / "topology.json", "plan.json": DETOUR / "plan.json"}
+        ).answer.split("\n")[:-1]
+        self.assertEqual(
+            [(line.split()[1], line.split()[2]) for line in emitted], [(name, data.hex()) for name, data in told]
+        )
 
     def test_a_record_is_gone_on_with(self):
         with tempfile.TemporaryDirectory() as folder:
@@ -197,14 +225,16 @@ class Sessions(unittest.TestCase):
         names = files(SQUARE)
         with self.assertRaises(planner.Refused) as refused:
             planner.Session(*names[:4], SQUARE / "plan-at-once.json")
-        self.assertEqual((1, True), (refused.exception.status, refused.exception.text.startswith("refused: 7 NotLower ")))
+        self.assertEqual(
+            (1, True), (refused.exception.status, refused.exception.text.startswith("refused: 7 NotLower "))
+        )
         with self.assertRaises(planner.Refused) as refused:
             planner.Session(*names[:4], b"{")
         self.assertEqual(3, refused.exception.status)
 
     def test_a_program_that_ends_or_hangs(self):
         session = self.open(SQUARE)
-        session._process.kill()
+        session._serve.process.kill()
         with self.assertRaises(planner.ServeEnded):
             session.start()
         with self.assertRaises(planner.ServeEnded):
@@ -232,7 +262,9 @@ class AsyncSessions(unittest.IsolatedAsyncioTestCase):
 
     async def test_a_whole_update_with_a_task_for_each_switch(self):
         queues = {name: asyncio.Queue() for name in switches(DETOUR)}
-        session = await self.opened(DETOUR, send=lambda name, data: reply(data) and queues[name].put_nowait(reply(data)))
+        session = await self.opened(
+            DETOUR, send=lambda name, data: reply(data) and queues[name].put_nowait(reply(data))
+        )
         events, settled = [], asyncio.Event()
 
         async def attend(name):

@@ -1,1 +1,2 @@
-"""What puts the planner on a machine: the folders of an installation, manual pages, completions and a Debian package."""
+"""What puts the planner on a machine: the folders of an installation, manual pages, completions and a Debian
+package."""

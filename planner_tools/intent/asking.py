@@ -1,4 +1,6 @@
 """The files behind the words of a command of this package, and what the program says of them."""
+from __future__ import annotations
+
 import os
 import re
 import sys
@@ -6,36 +8,49 @@ import sys
 from planner_tools import network as nets
 from planner_tools import program
 from planner_tools.files import NotJson, read_json
-from planner_tools.proved import REFUSALS, Given, Run, Stop, inside
+from planner_tools.proved import REFUSALS, Given, Run, Unable, inside
 from planner_tools.voice import Voice
 from planner_tools.words import BY_NAME, Command
+
+TYPE_CHECKING = False
+if TYPE_CHECKING:
+    from typing import Any, Callable, Sequence
+
+    from planner_tools.files import Json
+    from planner_tools.main import Options
+    from planner_tools.network import Network
 
 WRONG_WORDS, BAD_FILE, UNREAD = 2, 3, 6
 
 
-def files_of(name, typed):
-    """The files that the words of a command name, by their words in its usage: a folder stands for the names that are left out, `-` for the standard input."""
+def files_of(name: str, typed: Sequence[str]) -> dict[str, Given]:
+    """The files that the words of a command name, by their words in its usage: a folder stands for the names that are
+    left out, `-` for the standard input."""
     usage = re.split(r" \[?--", BY_NAME[name].usage)[0]
     run = Run([name, *typed], REFUSALS)
     run.command = Command(name, usage, "", "")
     wanted, least = run.command.words()
     run.resolve()
     if len(run.files) < least or len(typed) > len(wanted):
-        raise Stop(f"{name}: the words are {usage}, and there are {'more' if len(typed) > len(wanted) else 'fewer'}", WRONG_WORDS, [f"planner {name} {BY_NAME[name].usage}"])
+        raise Unable(
+            f"{name}: the words are {usage}, and there are {'more' if len(typed) > len(wanted) else 'fewer'}",
+            WRONG_WORDS, [f"planner {name} {BY_NAME[name].usage}"],
+        )
     for file in run.files.values():
         file.kept = run.spooled          # what came from the standard input is there as long as this
     return run.files
 
 
-def beside(folder, name):
-    """A file that an option names: where the first word is a folder and the name is no file, but one of the folder, it is that one."""
+def beside(folder: str, name: str) -> Given:
+    """A file that an option names: where the first word is a folder and the name is no file, but one of the folder, it
+    is that one."""
     found = inside(folder, name) if folder is not None and os.path.isdir(folder) else name
     return found if isinstance(found, Given) else Given(name, name)
 
 
-def asked(command, good=(0,), **files):
-    """What the program writes for a command over files, which are given by the words of its usage. Where its status is no good one it is said why, and it is
-    Stop."""
+def asked(command: str, good: Sequence[int] = (0,), **files: Given | None) -> str:
+    """What the program writes for a command over files, which are given by the words of its usage. Where its status is
+    no good one it is said why, and it is Unable."""
     run = Run([command], REFUSALS)
     run.files = {word: file for word, file in files.items() if file is not None}
     run.passed = [command, *(file.real for file in run.files.values())]
@@ -43,58 +58,63 @@ def asked(command, good=(0,), **files):
     run.status, run.text = run.ask(*run.passed)
     if run.status not in good:
         run.safely(run.explain)
-        raise Stop(None, run.status if run.status >= 0 else 128 - run.status)
+        raise Unable(None, run.status if run.status >= 0 else 128 - run.status)
     return run.text
 
 
-def network_of(file):
+def network_of(file: Given) -> Network:
     """The network of a topology that the program has read."""
     return nets.Network(json_of(file))
 
 
-def rules_of(file):
+def rules_of(file: Given) -> list[dict[str, Any]]:
     """The rules of a configuration that the program has read."""
     return nets.plain(json_of(file).root)["rules"]
 
 
-def json_of(file):
+def json_of(file: Given) -> Json:
     try:
         return read_json(file.real, file.shown)
     except NotJson as fault:
-        raise Stop(f"{file.shown}: {fault.what}", BAD_FILE) from fault
+        raise Unable(f"{file.shown}: {fault.what}", BAD_FILE) from fault
 
 
-def text_of(file):
+def text_of(file: Given) -> str:
     """The text of a file of lines."""
     try:
         with open(file.real, "rb") as source:
             return source.read().decode("utf-8-sig")
     except OSError as fault:
-        raise Stop(f"{file.shown}: {fault.strerror}", UNREAD) from fault
+        raise Unable(f"{file.shown}: {fault.strerror}", UNREAD) from fault
     except UnicodeDecodeError as fault:
-        raise Stop(f"{file.shown}: it is no text in UTF-8", BAD_FILE) from fault
+        raise Unable(f"{file.shown}: it is no text in UTF-8", BAD_FILE) from fault
 
 
 class Told(Voice):
-    """Says notes and warnings, and knows whether it has warned. Where warnings end it, they are said also by a quiet one."""
+    """Says notes and warnings, and knows whether it has warned. Where warnings end it, they are said also by a quiet
+    one."""
 
-    def __init__(self, options):
+    def __init__(self, options: Options) -> None:
         super().__init__(is_quiet=options.is_quiet)
         self.is_strict, self.has_warned = options.is_strict, False
 
-    def warn(self, what, more=()):
+    def warn(self, what: str, more: Sequence[Any] = ()) -> None:
         self.has_warned = True
-        (Voice() if self.is_strict else super()).warn(what, more)
+        if self.is_strict:
+            Voice().warn(what, more)
+        else:
+            super().warn(what, more)
 
 
-def done(work, words):
-    """Does the work of a command, which takes its words and a voice and returns the exit status and the text to write, and returns the status."""
+def done(work: Callable[..., Any], words: Sequence[str]) -> int:
+    """Does the work of a command, which takes its words and a voice and returns the exit status and the text to write,
+    and returns the status."""
     from planner_tools.main import take_options
     options, words = take_options(words)
     voice = Told(options)
     try:
         status, text = work(words, voice)
-    except Stop as stop:
+    except Unable as stop:
         if stop.args[0] is not None:     # otherwise what the program refused is said already
             voice.refuse(str(stop), stop.more)
         return stop.status

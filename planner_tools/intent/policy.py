@@ -11,6 +11,8 @@ Before the policy is written, `config` has accepted it over both configurations.
 
 Exit status: 0 written; 1 a configuration has no good path for some class, or it takes more demands than a policy has and --most isn't given; 2 wrong words; 3, 6 and 9 as `config`.
 """
+from __future__ import annotations
+
 import argparse
 import bisect
 import itertools
@@ -20,48 +22,73 @@ import tempfile
 from planner_tools import network as nets
 from planner_tools.files import counted, did_you_mean
 from planner_tools.intent.asking import asked, done, files_of, network_of
-from planner_tools.intent.classes import Beside, Paths, blocks, grouped, prefix_text, range_words, ranges, vlan_value, vlan_words
-from planner_tools.proved import Given, Stop
+from planner_tools.intent.classes import (
+    Beside, Paths, blocks, grouped, prefix_text, range_words, ranges, vlan_value, vlan_words,
+)
+from planner_tools.proved import Given, Unable
+
+TYPE_CHECKING = False
+if TYPE_CHECKING:
+    from typing import Any, Sequence
+
+    from planner_tools.intent.asking import Told
+    from planner_tools.intent.classes import Way
+    from planner_tools.network import Network
 
 WRONG_WORDS, REFUSED = 2, 1
 MOST_DEMANDS, LONGEST_CHAIN = 512, 16
 ANY = "any"
 # What a class does for which no demand speaks, in the order in which it is told.
-FREE = {"old": "arrive under the old rules alone", "new": "arrive under the new rules alone", "neither": "arrive under neither", "same": "go as before, and arrive"}
+FREE = {
+    "old": "arrive under the old rules alone", "new": "arrive under the new rules alone",
+    "neither": "arrive under neither", "same": "go as before, and arrive",
+}
 
 
 # ---- what both paths meet
 
-def longest_common(one, other):
-    """The longest list of names that stand in both lists in the same order. Each name stands once in both, and in both the same ones."""
+def longest_common(one: Sequence[str], other: Sequence[str]) -> tuple[str, ...]:
+    """The longest list of names that stand in both lists in the same order. Each name stands once in both, and in both
+    the same ones."""
     place = {name: at for at, name in enumerate(other)}
-    ends, heads, before = [], [], {}         # for each length the least place at which such a list may end, and the name there
+    ends: list[int] = []         # for each length the least place at which such a list may end, and the name there
+    heads: list[str] = []
+    before: dict[str, str | None] = {}
     for name in one:
         length = bisect.bisect_left(ends, place[name])
         before[name] = heads[length - 1] if length else None
         ends[length:length + 1], heads[length:length + 1] = [place[name]], [name]
-    found, name = [], heads[-1] if heads else None
-    while name is not None:
-        found.append(name)
-        name = before[name]
+    found = []
+    last = heads[-1] if heads else None
+    while last is not None:
+        found.append(last)
+        last = before[last]
     return tuple(reversed(found))
 
 
-def chains_of(old, new, through):
+def chains_of(old: Way, new: Way, through: frozenset[str]) -> list[tuple[str, ...]]:
     """The chains of waypoints that both paths meet in their order, none longer than a demand may have."""
     mine, others = ([name for name in dict.fromkeys(way.switches()) if name in through] for way in (old, new))
     mine, others = [name for name in mine if name in others], [name for name in others if name in mine]
     longest = longest_common(mine, others)
-    pieces = [longest[at:at + LONGEST_CHAIN] for at in range(0, max(len(longest) - 1, 1), LONGEST_CHAIN - 1)] if longest else []
+    pieces = (
+        [longest[at : at + LONGEST_CHAIN] for at in range(0, max(len(longest) - 1, 1), LONGEST_CHAIN - 1)]
+        if longest
+        else []
+    )
     return [*pieces, *((name,) for name in mine if name not in longest)]
 
 
 class Wanted:
-    """What the classes of two configurations do: which arrive under both, by host port and VLAN, and which of them meet which chains."""
+    """What the classes of two configurations do: which arrive under both, by host port and VLAN, and which of them meet
+    which chains."""
 
-    def __init__(self, both, through, only_changed):
+    def __init__(self, both: Beside, through: frozenset[str], only_changed: bool) -> None:
         self.both, self.only_changed = both, only_changed
-        self.arriving, self.changed, self.chains, self.free = {}, {}, {}, {}
+        self.arriving: dict[tuple[str, str], set[int]] = {}
+        self.changed: dict[tuple[str, str], set[int]] = {}
+        self.chains: dict[tuple[str, ...], dict[tuple[str, str], set[int]]] = {}
+        self.free: dict[str, dict[tuple[str, str], list[int]]] = {}
         kept = {}
         for entry in both.entries:
             for atom, (old, new) in enumerate(both.of_entry(entry)):
@@ -70,7 +97,9 @@ class Wanted:
                     kept[old, new] = (is_both, chains_of(old, new, through) if is_both and through else [])
                 self.take(entry, atom, old, new, *kept[old, new])
 
-    def take(self, entry, atom, old, new, is_both, chains):
+    def take(
+        self, entry: tuple[str, str], atom: int, old: Way, new: Way, is_both: bool, chains: Sequence[tuple[str, ...]]
+    ) -> None:
         is_changed = old.key != new.key
         if is_both:
             self.arriving.setdefault(entry, set()).add(atom)
@@ -82,7 +111,7 @@ class Wanted:
         for chain in chains:
             self.chains.setdefault(chain, {}).setdefault(entry, set()).add(atom)
 
-    def needed(self, by_entry):
+    def needed(self, by_entry: dict[tuple[str, str], set[int]]) -> dict[tuple[str, str], set[int]]:
         """Those of some classes for which a demand is wanted."""
         found = {entry: atoms & self.changed.get(entry, set()) for entry, atoms in by_entry.items()}
         return {entry: atoms for entry, atoms in found.items() if atoms}
@@ -93,15 +122,18 @@ class Wanted:
 class Cover:
     """Host ports or any, VLANs or any, and prefixes that cover the needed classes and none that isn't allowed."""
 
-    def __init__(self, both, allowed):
-        self.both, self.allowed, self.kept = both, allowed, {}
+    def __init__(self, both: Beside, allowed: dict[tuple[str, str], set[int]]) -> None:
+        self.both, self.allowed = both, allowed
+        self.kept: dict[Any, Any] = {}
 
-    def fewest(self, needed):
+    def fewest(self, needed: dict[tuple[str, str], set[int]]) -> list[tuple[str, str, tuple[int, int]]]:
         """The shortest of the covers that take first the one and then the other kind of groups."""
         ways = [kept for count in (3, 2, 1, 0) for kept in itertools.combinations(("all", "vlan", "host"), count)]
         return min((self.by((*kept, "entry"), needed) for kept in ways), key=len)
 
-    def by(self, kinds, needed):
+    def by(
+        self, kinds: Sequence[str], needed: dict[tuple[str, str], set[int]]
+    ) -> list[tuple[str, str, tuple[int, int]]]:
         left, found = {entry: set(atoms) for entry, atoms in needed.items()}, []
         for kind in kinds:
             for host, vlan in self.groups(kind, left):
@@ -110,7 +142,7 @@ class Cover:
         return found
 
     @staticmethod
-    def groups(kind, left):
+    def groups(kind: str, left: dict[tuple[str, str], set[int]]) -> dict[tuple[str, str], None] | list[tuple[str, str]]:
         """The groups of a kind in which something is left."""
         if kind == "all":
             return [(ANY, ANY)] if left else []
@@ -120,9 +152,14 @@ class Cover:
             return dict.fromkeys((ANY, vlan) for _, vlan in left)
         return dict.fromkeys((host, ANY) for host, _ in left)
 
-    def of_group(self, host, vlan, left):
-        """The greatest prefixes that are allowed for each entry of a group, as far as something that is left lies in them; that is left no more."""
-        entries = [(one, other) for one in (self.both.hosts if host == ANY else [host]) for other in (self.both.vlans if vlan == ANY else [vlan])]
+    def of_group(self, host: str, vlan: str, left: dict[tuple[str, str], set[int]]) -> list[tuple[int, int]]:
+        """The greatest prefixes that are allowed for each entry of a group, as far as something that is left lies in
+        them; that is left no more."""
+        entries = [
+            (one, other)
+            for one in (self.both.hosts if host == ANY else [host])
+            for other in (self.both.vlans if vlan == ANY else [vlan])
+        ]
         common, found = self.common(host, vlan, entries)
         wanted = set()
         for entry in entries if common else ():
@@ -131,36 +168,46 @@ class Cover:
                 left[entry] -= common
         return [block for block in found if self.touches(block, wanted)] if wanted else []
 
-    def common(self, host, vlan, entries):
+    def common(
+        self, host: str, vlan: str, entries: Sequence[tuple[str, str]]
+    ) -> tuple[set[int], list[tuple[int, int]]]:
         """The atoms that are allowed for each entry of a group, and the fewest prefixes of them."""
         if (host, vlan) not in self.kept:
             is_whole = all(entry in self.allowed for entry in entries)
-            atoms = set.intersection(*sorted((self.allowed[entry] for entry in entries), key=len)) if is_whole else set()
-            self.kept[host, vlan] = atoms, [block for one in ranges(sorted(atoms), self.both.firsts) for block in blocks(*one)]
+            atoms = (
+                set.intersection(*sorted((self.allowed[entry] for entry in entries), key=len)) if is_whole else set()
+            )
+            self.kept[host, vlan] = atoms, [
+                block for one in ranges(sorted(atoms), self.both.firsts) for block in blocks(*one)
+            ]
         return self.kept[host, vlan]
 
-    def touches(self, block, atoms):
+    def touches(self, block: tuple[int, int], atoms: set[int]) -> bool:
         first, length = block
         begin, end = (bisect.bisect_right(self.both.firsts, at) for at in (first, first + (1 << 32 - length) - 1))
         return any(atom in atoms for atom in range(begin - 1, end))
 
 
-def demands_of(wanted):
+def demands_of(wanted: Wanted) -> list[dict[str, Any]]:
     """The demands of a policy: first those with waypoints, then those of what only has to arrive."""
-    found, covered = [], {}
+    found = []
+    covered: dict[tuple[str, str], set[int]] = {}
     for chain, by_entry in wanted.chains.items():
         needed = wanted.needed(by_entry)
         found += [(chain, *one) for one in Cover(wanted.both, by_entry).fewest(needed)] if needed else []
         for entry, atoms in needed.items():
             covered.setdefault(entry, set()).update(atoms)
     left = {entry: atoms - covered.get(entry, set()) for entry, atoms in wanted.needed(wanted.arriving).items()}
-    found += [((), *one) for one in Cover(wanted.both, wanted.arriving).fewest({entry: atoms for entry, atoms in left.items() if atoms})]
+    found += [
+        ((), *one)
+        for one in Cover(wanted.both, wanted.arriving).fewest({entry: atoms for entry, atoms in left.items() if atoms})
+    ]
     return [demand_value(*one) for one in found]
 
 
-def demand_value(chain, host, vlan, block):
+def demand_value(chain: Sequence[str], host: str, vlan: str, block: tuple[int, int]) -> dict[str, Any]:
     """A demand as a policy has it."""
-    value = {} if host == ANY else {"from": host}
+    value: dict[str, Any] = {} if host == ANY else {"from": host}
     value |= {} if vlan == ANY else {"vlan": vlan_value(vlan)}
     value["dst"] = prefix_text(*block)
     value |= {"through": list(chain)} if chain else {}
@@ -169,13 +216,13 @@ def demand_value(chain, host, vlan, block):
 
 # ---- the answer
 
-def policy_text(demands):
+def policy_text(demands: Sequence[dict[str, Any]]) -> str:
     """The file, a line for each demand."""
     lines = ",\n".join(f"    {json.dumps(one)}" for one in demands)
     return '{\n  "demands": [\n' + lines + "\n  ]\n}\n" if demands else '{\n  "demands": []\n}\n'
 
 
-def free_lines(wanted):
+def free_lines(wanted: Wanted) -> list[str]:
     """The classes for which no demand speaks, by what they do, put together where they do the same."""
     lines = []
     for kind, words in FREE.items():
@@ -185,49 +232,69 @@ def free_lines(wanted):
             continue
         lines.append(f"{counted(count, 'class', 'classes')} {words}:")
         for hosts, vlans, atoms in grouped({entry: tuple(atoms) for entry, atoms in by_entry.items()}):
-            who = ", ".join(filter(None, (f"from {'any host' if len(hosts) == len(wanted.both.hosts) else ', '.join(hosts)}", vlan_words(vlans, wanted.both.vlans))))
+            who = ", ".join(
+                filter(
+                    None,
+                    (
+                        f"from {'any host' if len(hosts) == len(wanted.both.hosts) else ', '.join(hosts)}",
+                        vlan_words(vlans, wanted.both.vlans),
+                    ),
+                )
+            )
             lines.append(f"  {who}: {', '.join(range_words(ranges(atoms, wanted.both.firsts)))}")
     return lines
 
 
-def named_switches(given, network):
+def named_switches(given: Sequence[str], network: Network) -> frozenset[str]:
     """The switches behind `--through`."""
     names = [name for one in given for name in one.split(",") if name]
     for name in names:
         if name not in network.numbers:
-            raise Stop(f"--through {name}: the network has no such switch{did_you_mean(name, network.numbers)}", WRONG_WORDS)
+            raise Unable(
+                f"--through {name}: the network has no such switch{did_you_mean(name, network.numbers)}", WRONG_WORDS
+            )
     return frozenset(names)
 
 
-def kept_and_left(demands, most, both):
-    """The demands that are written, and those that are left out as there would be too many: of these each speaks of no more classes than any that is written.
-    Where it isn't said how many there may be, too many are Stop."""
+def kept_and_left(
+    demands: list[dict[str, Any]], most: int | None, both: Beside
+) -> tuple[list[dict[str, Any]], list[Any]]:
+    """The demands that are written, and those that are left out as there would be too many: of these each speaks of no
+    more classes than any that is written. Where it isn't said how many there may be, too many are Unable."""
     if len(demands) <= (most or MOST_DEMANDS):
         return demands, []
     if most is None:
-        raise Stop(f"it takes {len(demands)} demands, and a policy has at most {MOST_DEMANDS}: nothing is written", REFUSED,
-                   ["Next: ask with --changed for the classes alone whose paths differ, or with --most N for the N demands that speak of most classes"])
+        raise Unable(
+            f"it takes {len(demands)} demands, and a policy has at most {MOST_DEMANDS}: nothing is written", REFUSED,
+            [
+                "Next: ask with --changed for the classes alone whose paths differ, or with --most N for the N demands"
+                " that speak of most classes"
+            ],
+        )
     order = sorted(range(len(demands)), key=lambda at: (-classes_of(demands[at], both), at))
     kept = set(order[:most])
     return [demands[at] for at in sorted(kept)], [demands[at] for at in sorted(order[most:])]
 
 
-def classes_of(demand, both):
+def classes_of(demand: dict[str, Any], both: Beside) -> int:
     """Of how many classes a demand speaks, or of parts of how many."""
-    first, length = nets.prefix(demand["dst"])
+    first, length = nets.span(demand["dst"])
     begin, end = (bisect.bisect_right(both.firsts, at) for at in (first, first + (1 << 32 - length) - 1))
-    return (1 if "from" in demand else len(both.hosts)) * (1 if "vlan" in demand else len(both.vlans)) * (end - begin + 1)
+    return (
+        (1 if "from" in demand else len(both.hosts)) * (1 if "vlan" in demand else len(both.vlans)) * (end - begin + 1)
+    )
 
 
-def good_paths(topology, config):
-    """The paths of a configuration under which no packet comes to a switch twice. Where one does, `config` says which."""
+def good_paths(topology: Given, config: Given) -> Paths:
+    """The paths of a configuration under which no packet comes to a switch twice. Where one does, `config` says
+    which."""
     text = asked("paths", (0, 1), TOPO=topology, CONFIG=config)
     if not text.endswith(" 0 break\n"):
         asked("config", TOPO=topology, CONFIG=config)
     return Paths(text)
 
 
-def judged(files, text):
+def judged(files: dict[str, Given], text: str) -> None:
     """Sees that both configurations keep the policy."""
     with tempfile.NamedTemporaryFile("w", prefix="planner-", suffix=".json", encoding="utf-8") as file:
         file.write(text)
@@ -236,24 +303,38 @@ def judged(files, text):
             asked("config", TOPO=files["TOPO"], CONFIG=files[word], POLICY=Given(file.name, "the policy that was made"))
 
 
-def most(text):
+def most(text: str) -> int:
     if not text.isascii() or not text.isdigit() or not 1 <= int(text) <= MOST_DEMANDS:
         raise argparse.ArgumentTypeError(f"{text!r} isn't a number from 1 to {MOST_DEMANDS}")
     return int(text)
 
 
-def parser_of():
-    parser = argparse.ArgumentParser(prog="planner policy", description=__doc__.partition("\n\n")[2], formatter_class=argparse.RawDescriptionHelpFormatter)
-    parser.add_argument("files", metavar="FILE", nargs="+", help="TOPO OLD NEW, or a folder in place of those that are left out")
-    parser.add_argument("--through", metavar="SWITCH", action="append", default=[], help="a switch that a class has to meet where both of its paths meet it; several may be given, "
-                        "also with commas")
-    parser.add_argument("--most", metavar="N", type=most, help=f"where it takes more demands than N, which is at most {MOST_DEMANDS}, those that speak of most classes are written, and "
-                        "the others are listed")
+def parser_of() -> argparse.ArgumentParser:
+    parser = argparse.ArgumentParser(
+        prog="planner policy", description=__doc__.partition("\n\n")[2],
+        formatter_class=argparse.RawDescriptionHelpFormatter,
+    )
+    parser.add_argument(
+        "files", metavar="FILE", nargs="+", help="TOPO OLD NEW, or a folder in place of those that are left out"
+    )
+    parser.add_argument(
+        "--through", metavar="SWITCH", action="append", default=[],
+        help=(
+            "a switch that a class has to meet where both of its paths meet it; several may be given, also with commas"
+        ),
+    )
+    parser.add_argument(
+        "--most", metavar="N", type=most,
+        help=(
+            f"where it takes more demands than N, which is at most {MOST_DEMANDS}, those that speak of most classes are"
+            " written, and the others are listed"
+        ),
+    )
     parser.add_argument("--changed", action="store_true", help="demands for those classes alone whose paths differ")
     return parser
 
 
-def work(words, voice):
+def work(words: Sequence[str], voice: Told) -> tuple[int, str]:
     given = parser_of().parse_intermixed_args(words)
     files = files_of("policy", given.files)
     both = Beside(*(good_paths(files["TOPO"], files[word]) for word in ("OLD", "NEW")))
@@ -264,26 +345,37 @@ def work(words, voice):
     judged(files, text)
     say(wanted, demands, through, voice)
     if left:
-        voice.warn(f"{counted(len(left), 'demand')} more would be needed, and {'is' if len(left) == 1 else 'are'} left out:", ["  " + demand_words(one) for one in left])
+        voice.warn(
+            f"{counted(len(left), 'demand')} more would be needed, and {'is' if len(left) == 1 else 'are'} left out:",
+            ["  " + demand_words(one) for one in left],
+        )
     return 0, text
 
 
-def demand_words(demand):
+def demand_words(demand: dict[str, Any]) -> str:
     """For which packets a demand speaks, and what it asks, in words."""
     through = f", by {', '.join(demand['through'])}" if "through" in demand else ""
     vlan = f", {nets.vlan_words(demand['vlan'])}" if "vlan" in demand else ""
     return f"from {demand.get('from', 'any host')}{vlan}: {demand['dst']}{through}"
 
 
-def say(wanted, demands, through, voice):
+def say(wanted: Wanted, demands: Sequence[dict[str, Any]], through: frozenset[str], voice: Told) -> None:
     """What the policy asks for, and what stays free."""
     asked_for = sum(map(len, wanted.changed.values()))
-    voice.note(f"{counted(len(demands), 'demand')}: {asked_for} of {counted(wanted.both.count(), 'class', 'classes')} of packets must arrive; the others stay free",
-                 free_lines(wanted))
+    voice.note(
+        (
+            f"{counted(len(demands), 'demand')}: {asked_for} of {counted(wanted.both.count(), 'class', 'classes')} of"
+            " packets must arrive; the others stay free"
+        ),
+        free_lines(wanted),
+    )
     unmet = sorted(through - {name for chain in wanted.chains for name in chain})
     if unmet:
-        voice.warn(f"no class that arrives under both meets {', '.join(unmet)} under both: nothing is demanded of {'it' if len(unmet) == 1 else 'them'}")
+        voice.warn(
+            f"no class that arrives under both meets {', '.join(unmet)} under both: nothing is demanded of"
+            f" {'it' if len(unmet) == 1 else 'them'}"
+        )
 
 
-def main(words):
+def main(words: Sequence[str]) -> int:
     return done(work, words)

@@ -17,6 +17,8 @@ asked for too: an entry that they show with a match that OpenFlow 1.0 can't say 
 
 Exit status: 0 written; 1 refused, or a switch didn't answer; 2 wrong words.
 """
+from __future__ import annotations
+
 import argparse
 import re
 import struct
@@ -29,6 +31,12 @@ from planner_tools.switches.entries import Entry, ExtendedEntry, cut_entries
 from planner_tools.switches.expected import Answers
 from planner_tools.switches.marks import Mark
 
+TYPE_CHECKING = False
+if TYPE_CHECKING:
+    from typing import Sequence
+
+    from planner_tools.switches.connections import Connection
+
 # The xids of a run of questions: these, over a number of its own.
 FLOW_XID, EXTENDED_XID, BARRIER_XID = 1, 2, 3
 FIRST_RUN, RUNS = OWN + 0x1000, 0x3000
@@ -38,46 +46,54 @@ EVERY_PACKET = struct.pack("!I", 0x003FFFFF) + bytes(36)
 NICIRA = 0x2320
 
 
-def questions(base):
+def questions(base: int) -> bytes:
     """The questions for the table of a switch, with xids over this number."""
-    return (openflow.message(openflow.STATS_REQUEST, base + FLOW_XID, struct.pack("!HH", 1, 0) + EVERY_PACKET + struct.pack("!BxH", 0xFF, 0xFFFF))
-            + openflow.message(openflow.STATS_REQUEST, base + EXTENDED_XID, struct.pack("!HHII4xHHB3x", 0xFFFF, 0, NICIRA, 0, 0xFFFF, 0, 0xFF))
-            + openflow.message(openflow.BARRIER_REQUEST, base + BARRIER_XID))
+    return (
+        openflow.message(
+            openflow.STATS_REQUEST, base + FLOW_XID,
+            struct.pack("!HH", 1, 0) + EVERY_PACKET + struct.pack("!BxH", 0xFF, 0xFFFF),
+        )
+        + openflow.message(
+            openflow.STATS_REQUEST, base + EXTENDED_XID,
+            struct.pack("!HHII4xHHB3x", 0xFFFF, 0, NICIRA, 0, 0xFFFF, 0, 0xFF),
+        )
+        + openflow.message(openflow.BARRIER_REQUEST, base + BARRIER_XID)
+    )
 
 
 class Tables:
     """What the switches answered, and what is to be written of it."""
 
-    def __init__(self, names):
+    def __init__(self, names: Sequence[str]) -> None:
         self.names, self.runs = names, 0
         self.answers = {name: Answers() for name in names}
 
-    def missing(self):
+    def missing(self) -> set[str]:
         """The switches that haven't answered."""
         return {name for name, answers in self.answers.items() if not answers.is_whole}
 
-    def forget(self, name):
+    def forget(self, name: str) -> None:
         """A switch has to answer anew."""
         self.answers[name] = Answers()
 
-    def lost(self, connection):
+    def lost(self, connection: Connection) -> None:
         """A connection is lost: what its switch answered on it counts no more."""
         if self.answers[connection.name].connection is connection:
             self.forget(connection.name)
 
-    def ask(self, connection):
+    def ask(self, connection: Connection) -> None:
         """Asks a switch, from the beginning. What it still answers to earlier questions is passed over, by its xid."""
         self.runs += 1
         base = FIRST_RUN + 4 * (self.runs % RUNS)
         self.answers[connection.name] = Answers(base, connection)
         connection.send(questions(base))
 
-    def are_of(self, connection):
+    def are_of(self, connection: Connection) -> bool:
         """Whether the switch has answered all on this connection."""
         answers = self.answers[connection.name]
         return answers.is_whole and answers.connection is connection
 
-    def take(self, connection, message):
+    def take(self, connection: Connection, message: bytes) -> bool:
         """Takes a message where it answers a question."""
         answers, kind = self.answers[connection.name], openflow.type_of(message)
         xid = openflow.xid_of(message)
@@ -94,33 +110,38 @@ class Tables:
             answers.extended = None       # the switch has no such statistics
         elif kind == openflow.ERROR and xid in (FLOW_XID, BARRIER_XID):
             words = openflow.error_words(int.from_bytes(message[8:10], "big"), int.from_bytes(message[10:12], "big"))
-            raise Stop(f"{connection.name} refused the question for its table: {words}", "see that it speaks OpenFlow 1.0, and ask again")
+            raise Stop(
+                f"{connection.name} refused the question for its table: {words}",
+                "see that it speaks OpenFlow 1.0, and ask again",
+            )
         elif kind == openflow.BARRIER_REPLY and xid == BARRIER_XID:
             answers.is_whole = True
         return True
 
-    def marks(self):
+    def marks(self) -> dict[Mark, list[str]]:
         """The marks of updates, each with the switches that have it."""
-        found = {}
+        found: dict[Mark, list[str]] = {}
         for name in self.names:
             for mark in filter(None, map(Mark.of, self.entries(name))):
                 found.setdefault(mark, []).append(name)
         return found
 
-    def entries(self, name):
+    def entries(self, name: str) -> list[Entry]:
         """The entries of a switch; none where they don't fill its statistics, which is said elsewhere."""
         try:
             return self.answers[name].entries()
         except (ValueError, struct.error):
             return []
 
-    def has_tagging_entries(self):
+    def has_tagging_entries(self) -> bool:
         """Whether there are entries of the priorities that only two-phase plans use."""
-        return any(one.priority > LAST_PRIORITY and not one.oddity() for name in self.names for one in self.entries(name))
+        return any(
+            one.priority > LAST_PRIORITY and not one.oddity() for name in self.names for one in self.entries(name)
+        )
 
-    def replies(self):
-        """The text of the file REPLIES. Where an entry must be refused, all such are said, and then it is Stop. Those that an update under way has made are
-        counted alone."""
+    def replies(self) -> str:
+        """The text of the file REPLIES. Where an entry must be refused, all such are said, and then it is Stop. Those
+        that an update under way has made are counted alone."""
         lines, faults, of_update = [], [], 0
         marks = self.marks()
         for name in self.names:
@@ -134,38 +155,64 @@ class Tables:
         for fault in faults:
             say(fault)
         if of_update:
-            raise Stop(f"an update is under way: {', '.join(name for names in marks.values() for name in names)} {'has' if sum(map(len, marks.values())) == 1 else 'have'} its mark, "
-                       f"{'; '.join(map(str, marks))}; {of_update} entries are of its making, of priorities above {LAST_PRIORITY}, and can't be said in a configuration"
-                       f"{f'; {len(faults)} more stand above' if faults else ''}",
-                       "carry it on with its record by `planner apply .. RECORD --resume`, or turn it back by --back (--recover makes the record anew where it is lost); then ask again")
+            marked = [name for names in marks.values() for name in names]
+            raise Stop(
+                (
+                    f"an update is under way: {', '.join(marked)} {'has' if len(marked) == 1 else 'have'} its mark,"
+                    f" {'; '.join(map(str, marks))}; {of_update} entries are of its making, of priorities above"
+                    f" {LAST_PRIORITY}, and can't be said in a"
+                    f" configuration{f'; {len(faults)} more stand above' if faults else ''}"
+                ),
+                (
+                    "carry it on with its record by `planner apply .. RECORD --resume`, or turn it back by --back"
+                    " (--recover makes the record anew where it is lost); then ask again"
+                ),
+            )
         if faults:
-            raise Stop(f"{len(faults)} of the entries can't be said in a configuration: they stand above", "change them at the switches; docs/CONTROLLER.md says how")
+            raise Stop(
+                f"{len(faults)} of the entries can't be said in a configuration: they stand above",
+                "change them at the switches; docs/CONTROLLER.md says how",
+            )
         return "".join(f"{line}\n" for line in lines)
 
 
 class Reading:
     """The answers of one switch as lines of REPLIES, and the faults of its entries."""
 
-    def __init__(self, name, flow, extended):
-        self.name, self.lines, self.faults = name, [], []
-        self.of_update = []          # those of the faults that speak of entries as a two-phase plan makes them
-        self.tests, self.untagged, self.left_out, self.cookies, self.is_to_controller = [], 0, {}, 0, False
+    def __init__(self, name: str, flow: Sequence[bytes], extended: Sequence[bytes] | None) -> None:
+        self.name = name
+        self.lines = []
+        self.faults = []
+        # those of the faults that speak of entries as a two-phase plan makes them
+        self.of_update: list[str] = []
+        self.untagged, self.cookies, self.is_to_controller = 0, 0, False
+        self.tests: list[tuple[int, int | str, int | str, int, int]] = []
+        self.left_out: dict[str, int] = {}
         try:
             for reply in flow:
                 kept = b"".join(self.keep(Entry(data)) for data in cut_entries(reply[12:], 88))
-                self.lines.append(f"{name} {openflow.message(openflow.STATS_REPLY, OWN + FLOW_XID, reply[8:12] + kept).hex()}")
+                self.lines.append(
+                    f"{name} {openflow.message(openflow.STATS_REPLY, OWN + FLOW_XID, reply[8:12] + kept).hex()}"
+                )
             if extended is not None:
                 self.compare([ExtendedEntry(data) for reply in extended for data in cut_entries(reply[24:], 48)])
         except (ValueError, struct.error):
             self.faults.append(f"{name}: entries don't fill its statistics")
-        remarks = [f"# {name}: left out {count} entries {why}; they take room beside the capacity" for why, count in self.left_out.items()]
-        remarks += [f"# {name}: a test of the priority of the tag was taken from {self.untagged} entries for untagged packets"] if self.untagged else []
+        remarks = [
+            f"# {name}: left out {count} entries {why}; they take room beside the capacity"
+            for why, count in self.left_out.items()
+        ]
+        remarks += (
+            [f"# {name}: a test of the priority of the tag was taken from {self.untagged} entries for untagged packets"]
+            if self.untagged
+            else []
+        )
         remarks += [f"# {name}: what no entry takes is sent to the controller"] if self.is_to_controller else []
         remarks += [f"# {name}: {self.cookies} of its entries have a cookie"] if self.cookies else []
         remarks += [f"# {name}: it has no extended statistics, and is taken at its word"] if extended is None else []
         self.lines = remarks + self.lines
 
-    def keep(self, entry):
+    def keep(self, entry: Entry) -> bytes:
         """The bytes of an entry that stay."""
         why = entry.without_effect()
         if why:
@@ -181,21 +228,30 @@ class Reading:
             return entry.normalised()
         return b""
 
-    def compare(self, extended):
+    def compare(self, extended: Sequence[ExtendedEntry]) -> None:
         """Refuses what the extended statistics show otherwise."""
         shown, faults = [one for one in extended if one.table == 0 and not one.without_effect()], []
         for one in shown:
             if one.widened:
-                faults.append(f"{self.name}: an entry of priority {one.priority} tests {', '.join(one.widened)}, which OpenFlow 1.0 can't say: "
-                              "its statistics show it wider than it is")
-        if not faults and not self.faults and sorted(map(repr, self.tests)) != sorted(repr(one.test()) for one in shown):
-            faults.append(f"{self.name}: its two statistics differ: the table changed meanwhile, or has what isn't understood here")
+                faults.append(
+                    f"{self.name}: an entry of priority {one.priority} tests {', '.join(one.widened)}, which OpenFlow"
+                    " 1.0 can't say: its statistics show it wider than it is"
+                )
+        if (
+            not faults
+            and not self.faults
+            and sorted(map(repr, self.tests)) != sorted(repr(one.test()) for one in shown)
+        ):
+            faults.append(
+                f"{self.name}: its two statistics differ: the table changed meanwhile, or has what isn't understood"
+                " here"
+            )
         self.faults += faults
 
 
-def entry_at(path, refusal):
-    """The switch and the entry of which a refusal of `planner import` speaks, in words, or None. `path` has the statistics; of entries it names the
-    number, counted from 0 over the file."""
+def entry_at(path: str, refusal: str) -> str | None:
+    """The switch and the entry of which a refusal of `planner import` speaks, in words, or None. `path` has the
+    statistics; of entries it names the number, counted from 0 over the file."""
     shown = re.fullmatch(r"bad replies: \d+ (\w+)(?: \w+)? at (\d+)\n?", refusal)
     if shown is None or shown[1] in ("TooLong", "TooMany", "Incomplete", "OverCapacity"):
         return None
@@ -216,8 +272,9 @@ def entry_at(path, refusal):
     return None
 
 
-def read(options):
-    """Reads the tables of all switches: `options` has the topology, the file of switches, where they connect to, and the patience."""
+def read(options: argparse.Namespace) -> Tables:
+    """Reads the tables of all switches: `options` has the topology, the file of switches, where they connect to, and
+    the patience."""
     switches = None
     try:
         listed = read_switches(options.switches, options.topology)
@@ -226,7 +283,10 @@ def read(options):
         while tables.missing():
             if time.monotonic() > until:
                 names = ", ".join(f"{name}{switches.why_away(name)}" for name in sorted(tables.missing()))
-                raise Stop(f"no answer from {names} within {options.patience:g} s", "see that they are connected, and ask again")
+                raise Stop(
+                    f"no answer from {names} within {options.patience:g} s",
+                    "see that they are connected, and ask again",
+                )
             for what, connection, message in switches.poll(0.05):
                 if what == "up":
                     tables.ask(connection)
@@ -238,8 +298,10 @@ def read(options):
             switches.close()
 
 
-def main(words):
-    parser = argparse.ArgumentParser(prog="planner collect", description=__doc__, formatter_class=argparse.RawDescriptionHelpFormatter)
+def main(words: Sequence[str]) -> int:
+    parser = argparse.ArgumentParser(
+        prog="planner collect", description=__doc__, formatter_class=argparse.RawDescriptionHelpFormatter
+    )
     parser.add_argument("topology", metavar="TOPOLOGY")
     parser.add_argument("--switches", metavar="FILE", required=True)
     parser.add_argument("--listen", metavar="HOST:PORT", type=host_and_port)

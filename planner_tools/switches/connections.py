@@ -1,21 +1,30 @@
 """The connections to the switches of a network: which connection is which switch, and the messages that come.
 
-The file of switches has a line for each switch, `NAME DATAPATH` or `NAME DATAPATH HOST:PORT`: its name in the topology, its datapath id in 16
-hexadecimal digits, and where it listens. A switch without an address connects to us. `#` begins a comment.
+The file of switches has a line for each switch, `NAME DATAPATH` or `NAME DATAPATH HOST:PORT`: its name in the topology,
+its datapath id in 16 hexadecimal digits, and where it listens. A switch without an address connects to us. `#` begins a
+comment.
 
-Nothing here waits for one switch while another one has something to say: connections are made, bytes sent and taken as far as that goes at once.
+Nothing here waits for one switch while another one has something to say: connections are made, bytes sent and taken as
+far as that goes at once.
 """
+from __future__ import annotations
+
 import errno
 import fcntl
 import os
 import selectors
 import socket
 import time
+from typing import Optional
 
 from planner_tools.files import NotJson, read_json
 from planner_tools.network import Network
 from planner_tools.switches import openflow
 from planner_tools.voice import TELLING
+
+TYPE_CHECKING = False
+if TYPE_CHECKING:
+    from typing import Any, BinaryIO, Sequence
 
 # The upper half of all xids of these scripts' own messages. Those of `planner serve` count from 1 and are far below.
 OWN = 0xFEA70000
@@ -24,10 +33,15 @@ FEATURES_XID = OWN
 AGAIN = 1.0
 
 
+# By its name the datapath id and the address, or None, of each switch of a file of switches.
+Address = tuple[str, int]
+Listed = dict[str, tuple[int, Optional[Address]]]
+
+
 class Stop(Exception):
     """The work can't go on: what happened, and what to do next."""
 
-    def __init__(self, what, then):
+    def __init__(self, what: str, then: str) -> None:
         super().__init__(what)
         self.what, self.then = what, then
 
@@ -35,10 +49,10 @@ class Stop(Exception):
 say, progress = TELLING.say, TELLING.progress
 
 
-def read_switches(path, topology):
+def read_switches(path: str, topology: str) -> dict[str, tuple[int, tuple[str, int] | None]]:
     """The datapath id and the address, or None, of each switch of a file of switches, in the topology's order."""
     declared = declared_switches(topology)
-    listed = {}
+    listed: dict[str, tuple[int, tuple[str, int] | None]] = {}
     with open(path, encoding="ascii", errors="replace") as file:
         for number, line in enumerate(file, 1):
             words = line.split("#")[0].split()
@@ -51,25 +65,38 @@ def read_switches(path, topology):
             except (IndexError, ValueError):
                 good = False
             if not good or datapath in [it for it, _ in listed.values()]:
-                raise Stop(f"{path}, line {number}: not `NAME DATAPATH [HOST:PORT]` of a switch of the topology, or it stands twice", "correct the line")
+                raise Stop(
+                    (
+                        f"{path}, line {number}: not `NAME DATAPATH [HOST:PORT]` of a switch of the topology, or it"
+                        " stands twice"
+                    ),
+                    "correct the line",
+                )
             listed[name] = (datapath, address)
     missing = [name for name in declared if name not in listed]
     if missing:
-        raise Stop(f"{path} has no line for {', '.join(missing)}", "add the lines: every switch of the topology is asked for its table")
+        raise Stop(
+            f"{path} has no line for {', '.join(missing)}",
+            "add the lines: every switch of the topology is asked for its table",
+        )
     return {name: listed[name] for name in declared}
 
 
-def lock(path):
-    """Locks the file of switches for this run: of the runs on one machine one at a time is at work with it. The file, which has to stay open."""
+def lock(path: str) -> BinaryIO:
+    """Locks the file of switches for this run: of the runs on one machine one at a time is at work with it. The file,
+    which has to stay open."""
     file = open(path, "rb")
     try:
         fcntl.flock(file, fcntl.LOCK_EX | fcntl.LOCK_NB)
     except BlockingIOError:
-        raise Stop(f"another run is at work with the switches of {path}", "wait for its end: two controllers at once break what each of them keeps") from None
+        raise Stop(
+            f"another run is at work with the switches of {path}",
+            "wait for its end: two controllers at once break what each of them keeps",
+        ) from None
     return file
 
 
-def declared_switches(topology):
+def declared_switches(topology: str) -> list[str]:
     """The names of the switches of a topology. The program says more of a file that is none."""
     more = "correct the file; `planner config TOPOLOGY CONFIG` says more of it"
     try:
@@ -81,9 +108,9 @@ def declared_switches(topology):
     return names
 
 
-def host_and_port(text):
-    """The host and the port of `HOST:PORT`, `[ADDRESS]:PORT` for an address of IPv6, and these behind `tcp:`, as Open vSwitch writes them; ValueError where it is none.
-    A port alone is one of all addresses of this machine."""
+def host_and_port(text: str) -> tuple[str, int]:
+    """The host and the port of `HOST:PORT`, `[ADDRESS]:PORT` for an address of IPv6, and these behind `tcp:`, as Open
+    vSwitch writes them; ValueError where it is none. A port alone is one of all addresses of this machine."""
     text = text.removeprefix("tcp:") if text.count(":") > 1 else text
     host, _, port = text.rpartition(":")
     if ":" in host and not (host.startswith("[") and host.endswith("]")) or not 0 < int(port) < 1 << 16:
@@ -91,13 +118,19 @@ def host_and_port(text):
     return host.removeprefix("[").removesuffix("]"), int(port)
 
 
-def listed_address(text, where):
+def listed_address(text: str, where: str) -> tuple[str, int]:
     """The address of a switch in a file of switches."""
     kind = text.partition(":")[0]
     if kind in ("ssl", "pssl", "unix", "punix"):
-        raise Stop(f"{where}: {text}: the connection is made over TCP alone, and not by {kind}", "let the switch listen by `ptcp:PORT`, and write HOST:PORT")
+        raise Stop(
+            f"{where}: {text}: the connection is made over TCP alone, and not by {kind}",
+            "let the switch listen by `ptcp:PORT`, and write HOST:PORT",
+        )
     if kind == "ptcp":
-        raise Stop(f"{where}: {text} is what the switch does; here stands where it is reached", f"write HOST:{text.split(':')[1]}")
+        raise Stop(
+            f"{where}: {text} is what the switch does; here stands where it is reached",
+            f"write HOST:{text.split(':')[1]}",
+        )
     if text.isdigit():
         raise Stop(f"{where}: {text} is a port without a host", f"write HOST:{text}")
     try:
@@ -105,41 +138,47 @@ def listed_address(text, where):
     except ValueError:
         bracketed = text.rpartition(":")
         hint = f", as [{bracketed[0]}]:{bracketed[2]}" if text.count(":") > 1 else ""
-        raise Stop(f"{where}: {text} isn't HOST:PORT", f"write the host and a port from 1 to 65535{hint}; an address of IPv6 stands in brackets") from None
+        raise Stop(
+            f"{where}: {text} isn't HOST:PORT",
+            f"write the host and a port from 1 to 65535{hint}; an address of IPv6 stands in brackets",
+        ) from None
 
 
-def address_words(address):
+def address_words(address: tuple[str, int]) -> str:
     """A host and a port as they are written."""
     host, port = address
     return f"[{host}]:{port}" if ":" in host else f"{host}:{port}"
 
 
 class Connection:
-    """A connection: first it says which switch it is, then it hands on whole messages. Requests for an echo are answered here."""
+    """A connection: first it says which switch it is, then it hands on whole messages. Requests for an echo are
+    answered here."""
 
-    def __init__(self, sock, peer, expected=None, is_made=True):
+    def __init__(self, sock: socket.socket, peer: str, expected: str | None = None, is_made: bool = True) -> None:
         self.sock, self.peer, self.expected, self.is_made = sock, peer, expected, is_made
-        self.name, self.datapath = None, None
+        self.name = ""           # that of its switch, when it is known
+        self.datapath: int | None = None
         self.since = time.monotonic()
         self.rest, self.unsent, self.awaited = b"", b"", 0
-        self.early = []          # messages that came before the name was known
-        self.why = None          # why it is of no use, where it said so
+        self.early: list[bytes] = []          # messages that came before the name was known
+        self.why: str | None = None          # why it is of no use, where it said so
         self.is_open = False     # whether its HELLO came
         self.is_good = False     # whether its switch was found to have what it must have, and the update goes on on it
-        self.heard_at = None     # when its switch first answered for its table
+        self.heard_at: float | None = None     # when its switch first answered for its table
         self.is_asked_again = False      # whether it was asked once more, when the connection had stood for a while
-        self.kept = []           # what came for the session before the connection was good
+        self.kept: list[bytes] = []           # what came for the session before the connection was good
         sock.setblocking(False)
         sock.setsockopt(socket.IPPROTO_TCP, socket.TCP_NODELAY, 1)
         self.send(openflow.HELLO_BYTES)
 
-    def send(self, data):
-        """Sends bytes, or keeps them until they can be sent. Where that fails the connection is over, and `receive` says so next."""
+    def send(self, data: bytes) -> None:
+        """Sends bytes, or keeps them until they can be sent. Where that fails the connection is over, and `receive`
+        says so next."""
         self.unsent += data
         if self.is_made:
             self.flush()
 
-    def flush(self):
+    def flush(self) -> None:
         try:
             while self.unsent:
                 self.unsent = self.unsent[self.sock.send(self.unsent):]
@@ -149,17 +188,17 @@ class Connection:
             self.unsent = b""
             self.cut_off()
 
-    def events(self):
+    def events(self) -> int:
         """What it waits for."""
         return selectors.EVENT_READ | (selectors.EVENT_WRITE if self.unsent or not self.is_made else 0)
 
-    def cut_off(self):
+    def cut_off(self) -> None:
         try:
             self.sock.shutdown(socket.SHUT_RDWR)
         except OSError:
             pass
 
-    def receive(self):
+    def receive(self) -> list[bytes] | None:
         """The whole messages that came, or None at the end of the connection."""
         try:
             data = self.sock.recv(1 << 16)
@@ -173,15 +212,20 @@ class Connection:
         pieces = [piece for piece in pieces if not self.is_echo(piece)]
         return pieces if self.datapath is not None else self.introduce(pieces)
 
-    def is_echo(self, piece):
+    def is_echo(self, piece: bytes) -> bool:
         """Whether it is a request for an echo behind the HELLO: it is answered at once, by its own bytes."""
         self.is_open = self.is_open or piece[0] != 0 and openflow.type_of(piece) == openflow.HELLO
-        if not self.is_open or piece[0] != 1 or openflow.type_of(piece) != openflow.ECHO_REQUEST or not openflow.is_message(piece):
+        if (
+            not self.is_open
+            or piece[0] != 1
+            or openflow.type_of(piece) != openflow.ECHO_REQUEST
+            or not openflow.is_message(piece)
+        ):
             return False
         self.send(piece[:1] + bytes([openflow.ECHO_REPLY]) + piece[2:])
         return True
 
-    def introduce(self, pieces):
+    def introduce(self, pieces: Sequence[bytes]) -> list[Any] | None:
         """Asks for the features behind the first message, and keeps the messages that came beside the reply."""
         for number, piece in enumerate(pieces):
             self.why = openflow.other_version(piece)
@@ -189,7 +233,11 @@ class Connection:
                 return None
             if not self.early:
                 self.send(openflow.message(openflow.FEATURES_REQUEST, FEATURES_XID))
-            if openflow.type_of(piece) == openflow.FEATURES_REPLY and len(piece) >= 32 and openflow.xid_of(piece) == FEATURES_XID:
+            if (
+                openflow.type_of(piece) == openflow.FEATURES_REPLY
+                and len(piece) >= 32
+                and openflow.xid_of(piece) == FEATURES_XID
+            ):
                 self.datapath = int.from_bytes(piece[8:16], "big")
                 self.early += pieces[number + 1:]
                 return []
@@ -197,43 +245,65 @@ class Connection:
         return []
 
 
-class Switches:
-    """All connections. New ones are made or taken, and each gets its name. A connection may take `patience` seconds to say which switch it is."""
+# What came: "up" where a connection says which switch it is, "message" with its bytes, "down" where it is over.
+Heard = tuple[str, Connection, bytes]
 
-    def __init__(self, listed, listen=None, patience=10.0):
+
+class Switches:
+    """All connections. New ones are made or taken, and each gets its name. A connection may take `patience` seconds to
+    say which switch it is."""
+
+    def __init__(
+        self, listed: dict[str, tuple[int, tuple[str, int] | None]], listen: tuple[str, int] | None = None,
+        patience: float = 10.0,
+    ) -> None:
         self.listed, self.patience = listed, patience
-        self.named = {}          # the connection of each switch that has one
+        self.named: dict[str, Connection] = {}          # the connection of each switch that has one
         self.selector = selectors.DefaultSelector()
         self.due = {name: 0.0 for name, (_, address) in listed.items() if address is not None}
-        self.tried = {}          # how the last try to reach a switch failed
-        self.strangers = {}      # by host: why a connection from there was closed that didn't say which switch it is
+        self.tried: dict[str, str] = {}          # how the last try to reach a switch failed
+        # by host: why a connection from there was closed that didn't say which switch it is
+        self.strangers: dict[str, str] = {}
+        self.listener: socket.socket | None = None
         away = [name for name, (_, address) in listed.items() if address is None]
         if listen is None and away:
-            raise Stop(f"{', '.join(away)} {'has' if len(away) == 1 else 'have'} no address in the file of switches, and no --listen is given, where switches without one connect to",
-                       "write where it listens, HOST:PORT, behind its datapath id; or give --listen HOST:PORT")
+            raise Stop(
+                (
+                    f"{', '.join(away)} {'has' if len(away) == 1 else 'have'} no address in the file of switches, and"
+                    " no --listen is given, where switches without one connect to"
+                ),
+                "write where it listens, HOST:PORT, behind its datapath id; or give --listen HOST:PORT",
+            )
         if listen is not None:
             try:
                 listener = socket.create_server(listen, family=socket.AF_INET6 if ":" in listen[0] else socket.AF_INET)
             except OSError as fault:
-                raise Stop(f"can't listen at {address_words(listen)}: {fault.strerror or fault}",
-                           "see whether another run is at work there, or give --listen another port, and the switches too") from None
+                raise Stop(
+                    f"can't listen at {address_words(listen)}: {fault.strerror or fault}",
+                    "see whether another run is at work there, or give --listen another port, and the switches too",
+                ) from None
             if listen[0] in ("", "0.0.0.0", "::"):
-                progress(f"listening at every address of this machine, port {listen[1]}: whoever reaches it can connect; --listen HOST:PORT names one address")
+                progress(
+                    f"listening at every address of this machine, port {listen[1]}: whoever reaches it can connect;"
+                    " --listen HOST:PORT names one address"
+                )
             listener.setblocking(False)
+            self.listener = listener
             self.selector.register(listener, selectors.EVENT_READ, None)
 
-    def connections(self):
+    def connections(self) -> list[Connection]:
         return [key.data for key in self.selector.get_map().values() if key.data is not None]
 
-    def connect_missing(self):
+    def connect_missing(self) -> None:
         """Tries to reach each switch that listens and has no connection, as often as AGAIN says."""
         reached = {one.expected for one in self.connections()}
         for name, due in self.due.items():
-            if name not in reached and time.monotonic() >= due:
+            address = self.listed[name][1]
+            if address is not None and name not in reached and time.monotonic() >= due:
                 self.due[name] = time.monotonic() + AGAIN
-                self.reach(name, self.listed[name][1])
+                self.reach(name, address)
 
-    def reach(self, name, address):
+    def reach(self, name: str, address: tuple[str, int]) -> None:
         try:
             family, _, _, _, where = socket.getaddrinfo(*address, type=socket.SOCK_STREAM)[0]
             sock = socket.socket(family, socket.SOCK_STREAM)
@@ -248,21 +318,21 @@ class Switches:
             return
         self.add(Connection(sock, address_words(address), name, is_made=state == 0))
 
-    def add(self, connection):
+    def add(self, connection: Connection) -> None:
         connection.awaited = connection.events()
         self.selector.register(connection.sock, connection.awaited, connection)
 
-    def wait_for(self, connection):
+    def wait_for(self, connection: Connection) -> None:
         if connection.events() != connection.awaited:
             connection.awaited = connection.events()
             self.selector.modify(connection.sock, connection.awaited, connection)
 
-    def poll(self, seconds, quiet=0.005, longest=0.5):
-        """Takes what comes until the connections are quiet, after at most `seconds` for the first sign: a list of ("up", connection, None),
-        ("message", connection, bytes), ("down", connection, None)."""
+    def poll(self, seconds: float, quiet: float = 0.005, longest: float = 0.5) -> list[tuple[str, Connection, bytes]]:
+        """Takes what comes until the connections are quiet, after at most `seconds` for the first sign: what was heard,
+        in its order."""
         self.connect_missing()
         for one in self.connections():
-            if one.name is None and time.monotonic() - one.since > self.patience:
+            if not one.name and time.monotonic() - one.since > self.patience:
                 self.turn_away(one, f"didn't say which switch it is within {self.patience:g} s")
             else:
                 self.wait_for(one)
@@ -271,24 +341,25 @@ class Switches:
         while signs:
             for key, events in signs:
                 if key.data is None:
-                    self.accept(key.fileobj)
+                    self.accept()
                 elif key.data in self.connections():     # it isn't where its switch has connected anew meanwhile
                     found += self.look(key.data, events)
             signs = self.selector.select(quiet) if time.monotonic() < until else []
         return found
 
-    def accept(self, listener):
+    def accept(self) -> None:
+        assert self.listener is not None
         try:
-            sock, peer = listener.accept()
+            sock, peer = self.listener.accept()
         except OSError:
             return           # it went away before it was taken
         self.add(Connection(sock, address_words(peer[:2])))
 
-    def look(self, one, events):
+    def look(self, one: Connection, events: int) -> list[tuple[str, Connection, bytes]]:
         if events & selectors.EVENT_WRITE:
             state = 0 if one.is_made else one.sock.getsockopt(socket.SOL_SOCKET, socket.SO_ERROR)
             if state:
-                self.tried[one.expected] = os.strerror(state)
+                self.tried[one.expected or ""] = os.strerror(state)
                 self.drop(one)
                 return []
             one.is_made = True
@@ -296,24 +367,27 @@ class Switches:
             self.wait_for(one)
         return self.take(one) if events & selectors.EVENT_READ else []
 
-    def take(self, one):
+    def take(self, one: Connection) -> list[tuple[str, Connection, bytes]]:
         pieces = one.receive()
-        if pieces is None and one.name is None:
+        if pieces is None and not one.name:
             self.turn_away(one, one.why or "ended, or sent what is no OpenFlow 1.0, before it said which switch it is")
         elif pieces is None:
             self.drop(one)
-            return [("down", one, None)]
-        elif one.name is None and one.datapath is not None:
+            return [("down", one, b"")]
+        elif not one.name and one.datapath is not None:
             if self.give_name(one):
-                return [("up", one, None)] + [("message", one, piece) for piece in one.early]
+                return [("up", one, b"")] + [("message", one, piece) for piece in one.early]
         else:
             return [("message", one, piece) for piece in pieces]
         return []
 
-    def give_name(self, one):
+    def give_name(self, one: Connection) -> bool:
         name = next((name for name, (datapath, _) in self.listed.items() if datapath == one.datapath), None)
         if one.expected is not None and name != one.expected:
-            raise Stop(f"{one.peer} should be {one.expected} but has the datapath id {one.datapath:016x}", "correct the file of switches")
+            raise Stop(
+                f"{one.peer} should be {one.expected} but has the datapath id {one.datapath:016x}",
+                "correct the file of switches",
+            )
         if name is None:
             self.turn_away(one, f"has the datapath id {one.datapath:016x}, which is none of the file")
             return False
@@ -325,36 +399,48 @@ class Switches:
         self.tried.pop(name, None)
         return True
 
-    def turn_away(self, one, why):
-        """Closes a connection that is of no use. Of a host that comes again and again for the same reason it is said once."""
+    def turn_away(self, one: Connection, why: str) -> None:
+        """Closes a connection that is of no use. Of a host that comes again and again for the same reason it is said
+        once."""
         self.drop(one)
         if one.expected and one.why:
-            raise Stop(f"{one.expected} ({one.peer}) {why}", f"let it speak OpenFlow 1.0 too (Open vSwitch: `ovs-vsctl set bridge {one.expected} protocols=OpenFlow10,OpenFlow13`)")
+            raise Stop(
+                f"{one.expected} ({one.peer}) {why}",
+                (
+                    "let it speak OpenFlow 1.0 too (Open vSwitch: `ovs-vsctl set bridge"
+                    f" {one.expected} protocols=OpenFlow10,OpenFlow13`)"
+                ),
+            )
         known, who = (self.tried, one.expected) if one.expected else (self.strangers, one.peer.rpartition(":")[0])
         if known.get(who) != why:
-            progress(f"the connection with {one.peer}{f' ({one.expected})' if one.expected else ''} {why}; it is closed")
+            progress(
+                f"the connection with {one.peer}{f' ({one.expected})' if one.expected else ''} {why}; it is closed"
+            )
         known[who] = why
 
-    def drop(self, one):
+    def drop(self, one: Connection) -> None:
         self.selector.unregister(one.sock)
         one.sock.close()
         if self.named.get(one.name) is one:
             del self.named[one.name]
 
-    def why_away(self, name):
-        """How the last try to reach a switch failed, in words behind its name. Of one that connects to us: which connections were closed."""
+    def why_away(self, name: str) -> str:
+        """How the last try to reach a switch failed, in words behind its name. Of one that connects to us: which
+        connections were closed."""
         if name in self.tried:
             return f" ({self.tried[name]})"
         words = "; ".join(f"a connection from {host} {why}" for host, why in self.strangers.items())
         return f" ({words})" if words and name not in self.due else ""
 
-    def flush(self, seconds):
+    def flush(self, seconds: float) -> None:
         """Sends what is still to be sent, for so long at most."""
         until = time.monotonic() + seconds
         while any(one.unsent for one in self.named.values()) and time.monotonic() < until:
             self.poll(0.05)
 
-    def close(self):
-        for key in list(self.selector.get_map().values()):
-            key.fileobj.close()
+    def close(self) -> None:
+        if self.listener is not None:
+            self.listener.close()        # first, so that no switch connects anew
+        for one in self.connections():
+            one.sock.close()
         self.selector.close()

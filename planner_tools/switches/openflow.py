@@ -1,5 +1,7 @@
-"""The little of OpenFlow 1.0.0 (section 5) that these scripts need: where messages end, their types, the words for errors. No message that
-changes a table for an IP packet is made here."""
+"""The little of OpenFlow 1.0.0 (section 5) that these scripts need: where messages end, their types, the words for
+errors. No message that changes a table for an IP packet is made here."""
+from __future__ import annotations
+
 import struct
 
 HELLO, ERROR, ECHO_REQUEST, ECHO_REPLY, FEATURES_REQUEST, FEATURES_REPLY = 0, 1, 2, 3, 5, 6
@@ -8,41 +10,53 @@ HELLO_BYTES = bytes.fromhex("0100000800000000")
 VERSIONS = {1: "1.0", 2: "1.1", 3: "1.2", 4: "1.3", 5: "1.4", 6: "1.5"}
 
 # Section 5.4.4: the types of errors, and their codes as far as flow messages and questions can meet them.
-ERROR_TYPES = ["hello failed", "bad request", "bad action", "flow message failed", "port message failed", "queue operation failed"]
+ERROR_TYPES = [
+    "hello failed", "bad request", "bad action", "flow message failed", "port message failed", "queue operation failed",
+]
 ERROR_CODES = [
     ["incompatible", "permission error"],
-    ["bad version", "bad type", "bad statistics type", "bad vendor", "bad subtype", "permission error", "bad length", "buffer empty", "buffer unknown"],
-    ["bad type", "bad length", "bad vendor", "bad vendor type", "bad out port", "bad argument", "permission error", "too many", "bad queue"],
+    [
+        "bad version", "bad type", "bad statistics type", "bad vendor", "bad subtype", "permission error", "bad length",
+        "buffer empty", "buffer unknown",
+    ],
+    [
+        "bad type", "bad length", "bad vendor", "bad vendor type", "bad out port", "bad argument", "permission error",
+        "too many", "bad queue",
+    ],
     ["all tables full", "overlap", "permission error", "bad emergency timeout", "bad command", "unsupported"],
 ]
 
 
-def error_words(kind, code):
+def error_words(kind: int, code: int) -> str:
     """The standard's words for an error, as far as they are known."""
     codes = ERROR_CODES[kind] if kind < len(ERROR_CODES) else []
-    return f"{ERROR_TYPES[kind] if kind < len(ERROR_TYPES) else 'unknown type'}: {codes[code] if code < len(codes) else 'unknown code'}"
+    return (
+        f"{ERROR_TYPES[kind] if kind < len(ERROR_TYPES) else 'unknown type'}:"
+        f" {codes[code] if code < len(codes) else 'unknown code'}"
+    )
 
 
-def message(kind, xid, body=b""):
+def message(kind: int, xid: int, body: bytes = b"") -> bytes:
     return struct.pack("!BBHI", 1, kind, 8 + len(body), xid) + body
 
 
-def type_of(piece):
+def type_of(piece: bytes) -> int:
     return piece[1]
 
 
-def xid_of(piece):
+def xid_of(piece: bytes) -> int:
     return int.from_bytes(piece[4:8], "big")
 
 
-def is_message(piece):
+def is_message(piece: bytes) -> bool:
     """Whether a header can be that of a message of version 1, or of a HELLO, which may offer newer versions."""
     return piece[0] != 0 and (piece[0] == 1 or type_of(piece) == HELLO) and int.from_bytes(piece[2:4], "big") >= 8
 
 
-def cut(data):
+def cut(data: bytes) -> tuple[list[bytes], bytes]:
     """Cuts bytes into whole messages, and the rest. From a header on that is none, all bytes are one piece."""
-    pieces, at = [], 0
+    at = 0
+    pieces: list[bytes] = []
     while len(data) - at >= 8:
         if not is_message(data[at:at + 8]):
             return pieces + [data[at:]], b""
@@ -54,11 +68,11 @@ def cut(data):
     return pieces, data[at:]
 
 
-def version_words(number):
+def version_words(number: int) -> str:
     return f"OpenFlow {VERSIONS[number]}" if number in VERSIONS else f"an unknown version ({number}) of OpenFlow"
 
 
-def other_version(piece):
+def other_version(piece: bytes) -> str | None:
     """By what a first message shows that the switch doesn't speak OpenFlow 1.0, in words behind its name; or None."""
     version, kind = piece[0], piece[1]
     if kind == HELLO and version > 1:
@@ -72,8 +86,9 @@ def other_version(piece):
     return None
 
 
-def offered_versions(hello):
-    """The versions that the bitmap of a HELLO lists (OpenFlow 1.3.1, section 7.5.1), ascending; none where it has no bitmap."""
+def offered_versions(hello: bytes) -> list[int]:
+    """The versions that the bitmap of a HELLO lists (OpenFlow 1.3.1, section 7.5.1), ascending; none where it has no
+    bitmap."""
     at = 8
     while at + 8 <= len(hello):
         kind, length = struct.unpack("!HH", hello[at:at + 4])
@@ -83,12 +98,17 @@ def offered_versions(hello):
     return []
 
 
-def change_words(piece):
+def change_words(piece: bytes) -> str:
     """What a flow message of `planner serve` does, in words."""
     wildcards, in_port = struct.unpack("!IH", piece[8:14])
-    vlan, command, priority = int.from_bytes(piece[26:28], "big"), int.from_bytes(piece[56:58], "big"), int.from_bytes(piece[62:64], "big")
+    vlan, command, priority = (
+        int.from_bytes(piece[26:28], "big"), int.from_bytes(piece[56:58], "big"), int.from_bytes(piece[62:64], "big"),
+    )
     length = 32 - min(32, wildcards >> 14 & 63)
-    words = f"{ {0: 'insert', 2: 'replace', 4: 'delete'}.get(command, 'change')} priority {priority} {'.'.join(map(str, piece[40:44]))}/{length}"
+    words = (
+        f"{ {0: 'insert', 2: 'replace', 4: 'delete'}.get(command, 'change')} priority"
+        f" {priority} {'.'.join(map(str, piece[40:44]))}/{length}"
+    )
     words += f" in_port {in_port}" if not wildcards & 1 else ""
     words += "" if wildcards & 2 else " untagged" if vlan == 0xFFFF else f" VLAN {vlan}"
     return words

@@ -1,6 +1,7 @@
 #!/usr/bin/env python3
-"""A program for tests: it answers `paths` and `trace` as docs/FORMATS.md has them, worked out here, and hands all other words to the program that the
-variable REAL_PROGRAM names. So what the front end makes of these answers is tested with any build."""
+"""A program for tests: it answers `paths` and `trace` as docs/FORMATS.md has them, worked out here, and hands all other
+words to the program that the variable REAL_PROGRAM names. So what the front end makes of these answers is tested with
+any build."""
 import json
 import os
 import subprocess
@@ -29,8 +30,14 @@ def number(text):
 
 def lookup(rules, stop, vlan, to):
     switch, _, port = stop.rpartition(":")
-    fitting = [one for one in rules if one["switch"] == switch and one.get("in_port", "any") in ("any", int(port)) and str(one.get("vlan", "any")) in ("any", vlan)
-               and span(one["dst"])[0] <= to < span(one["dst"])[1]]
+    fitting = [
+        one
+        for one in rules
+        if one["switch"] == switch
+        and one.get("in_port", "any") in ("any", int(port))
+        and str(one.get("vlan", "any")) in ("any", vlan)
+        and span(one["dst"])[0] <= to < span(one["dst"])[1]
+    ]
     return max(fitting, key=lambda one: one["priority"], default=None)
 
 
@@ -74,8 +81,13 @@ def paths(topology, config, policy=None):
     for host in topology["hosts"]:
         for vlan in map(str, topology["vlans"]):
             for first in cuts:
-                covering = [one for one in demands if one.get("from", "any") in ("any", host) and str(one.get("vlan", "any")) in ("any", vlan)
-                            and span(one["dst"])[0] <= first < span(one["dst"])[1]]
+                covering = [
+                    one
+                    for one in demands
+                    if one.get("from", "any") in ("any", host)
+                    and str(one.get("vlan", "any")) in ("any", vlan)
+                    and span(one["dst"])[0] <= first < span(one["dst"])[1]
+                ]
                 stops, _, end = walk(topology, rules, host, vlan, first)
                 word = mark(covering, stops, end)
                 counts[word if word in counts else "break"] += 1
@@ -90,8 +102,14 @@ def trace(topology, config, entry, vlan, to):
     stops, met, end = walk(topology, config["rules"], entry, vlan, number(to))
     lines = []
     for stop, rule in zip(stops, met):
-        what = "no rule" if rule is None else (f"{rule['priority']} {rule.get('in_port', 'any')} {rule.get('vlan', 'any')} {rule['dst']} -> "
-                                               + ("drop" if rule["out"] == "drop" else f"port {rule['out']}"))
+        what = (
+            "no rule"
+            if rule is None
+            else (
+                f"{rule['priority']} {rule.get('in_port', 'any')} {rule.get('vlan', 'any')} {rule['dst']} -> "
+                + ("drop" if rule["out"] == "drop" else f"port {rule['out']}")
+            )
+        )
         lines.append(f"{stop} {vlan}: {what}")
     return [*lines, end], False
 

@@ -25,7 +25,9 @@ SECONDS = 60
 
 class Row:
     def __init__(self, title):
-        self.title, self.example, self.steps, self.words, self.status, self.said, self.input = title, "square", [], None, None, [], b""
+        self.title, self.example, self.steps, self.words, self.status, self.said, self.input = (
+            title, "square", [], None, None, [], b"",
+        )
 
     def prepare(self, folder):
         """Copies the files of the example into a folder, and changes them."""
@@ -48,7 +50,10 @@ class Row:
     def run(self, program, folder, **variables):
         """Runs a program in the folder with the words: its status, its text, and what it says."""
         variables = {**os.environ, "PATH": os.pathsep.join([ROOT, os.environ.get("PATH", "")]), **variables}
-        done = subprocess.run([program, *self.words], cwd=folder, input=self.input, capture_output=True, timeout=SECONDS, check=False, env=variables)
+        done = subprocess.run(
+            [program, *self.words], cwd=folder, input=self.input, capture_output=True, timeout=SECONDS, check=False,
+            env=variables,
+        )
         return done.returncode, done.stdout, done.stderr.decode()
 
 

@@ -1,5 +1,5 @@
-"""`--json`: the object that each command writes is one of the schema in docs/FRONT_END.md, and has what is written and said without it. PLANNER names the
-program."""
+"""`--json`: the object that each command writes is one of the schema in docs/FRONT_END.md, and has what is written and
+said without it. PLANNER names the program."""
 import io
 import json
 import os
@@ -31,7 +31,11 @@ def faults(value, one, whole, way="it"):
     if "$ref" in one:
         return faults(value, whole["$defs"][one["$ref"].removeprefix("#/$defs/")], whole, way)
     if "anyOf" in one:
-        return [] if any(not faults(value, other, whole) for other in one["anyOf"]) else [f"{way} is none of several: {value!r}"]
+        return (
+            []
+            if any(not faults(value, other, whole) for other in one["anyOf"])
+            else [f"{way} is none of several: {value!r}"]
+        )
     if "const" in one and value != one["const"]:
         return [f"{way} isn't {one['const']}"]
     if "type" in one and (not isinstance(value, TYPES[one["type"]]) or isinstance(value, bool)):
@@ -39,9 +43,17 @@ def faults(value, one, whole, way="it"):
     found = [f"{way} has no {name}" for name in one.get("required", []) if name not in value]
     if isinstance(value, dict):
         named = one.get("properties", {})
-        found += [fault for name, it in value.items() for fault in faults(it, named.get(name, one.get("additionalProperties", {})), whole, f"{way}.{name}")]
+        found += [
+            fault
+            for name, it in value.items()
+            for fault in faults(it, named.get(name, one.get("additionalProperties", {})), whole, f"{way}.{name}")
+        ]
     if isinstance(value, list):
-        found += [fault for number, it in enumerate(value) for fault in faults(it, one.get("items", {}), whole, f"{way}[{number}]")]
+        found += [
+            fault
+            for number, it in enumerate(value)
+            for fault in faults(it, one.get("items", {}), whole, f"{way}[{number}]")
+        ]
     return found
 
 
@@ -90,10 +102,20 @@ class Answers(unittest.TestCase):
 
     def test_a_reason_has_its_parts(self):
         for words, verdict, reason, named in [
-            ("check . plan-at-once.json", "refused", {"name": "NotLower", "number": 7, "round": 1, "switch": "s3"}, {"from": "s1:1", "vlan": "untagged", "address": "10.0.0.0"}),
-            ("config topology.json policy.json", "bad file", {"file": "config", "number": 2, "name": "Shape", "field": "rules", "place": 0}, None),
-            ("trace topology.json old.json s1:9 untagged 10.0.0.1", "no entry", {"name": "NoEntry", "entry": "s1:9", "vlan": "untagged"}, None),
-            ("check .", "accepted", None, None), ("explain . plan-at-once.json", "run", None, None), ("explain .", "no run", None, None),
+            (
+                "check . plan-at-once.json", "refused", {"name": "NotLower", "number": 7, "round": 1, "switch": "s3"},
+                {"from": "s1:1", "vlan": "untagged", "address": "10.0.0.0"},
+            ),
+            (
+                "config topology.json policy.json", "bad file",
+                {"file": "config", "number": 2, "name": "Shape", "field": "rules", "place": 0}, None,
+            ),
+            (
+                "trace topology.json old.json s1:9 untagged 10.0.0.1", "no entry",
+                {"name": "NoEntry", "entry": "s1:9", "vlan": "untagged"}, None,
+            ),
+            ("check .", "accepted", None, None), ("explain . plan-at-once.json", "run", None, None),
+            ("explain .", "no run", None, None),
         ]:
             with self.subTest(words):
                 _, value = self.object_of(*words.split())
@@ -106,7 +128,10 @@ class Answers(unittest.TestCase):
             with open(os.path.join(folder, "bad.json"), "w", encoding="ascii") as file:
                 file.write('{"rules": [{"switch": "s1", "priority": 0, "dst": "10.0.0.0/24", "out": 2}]}')
             _, value = self.object_of("config", "topology.json", os.path.join(folder, "bad.json"))
-        self.assertEqual(("bad file", "rules[0].priority", 1), tuple([value["verdict"], value["places"][0]["member"], value["places"][0]["line"]]))
+        self.assertEqual(
+            ("bad file", "rules[0].priority", 1),
+            tuple([value["verdict"], value["places"][0]["member"], value["places"][0]["line"]]),
+        )
         text = Json("x", b'{"a": [1, {"b": 2}]}')
         self.assertEqual(["a", "a[1].b", "a[1].b", None], [report.member_at(text, at) for at in (1, 11, 16, 3)])
 
@@ -131,7 +156,9 @@ class Answers(unittest.TestCase):
         folder = os.path.join(test_front.EXAMPLES, "detour")
         status, value = self.object_of("pack", ".", "--strict", folder=folder)
         self.assertEqual((0, []), (status, value["warnings"]))
-        status, value = self.object_of("check", "topology.json", "old.json", "new.json", "policy-thru.json", "plan.json", "--strict", folder=folder)
+        status, value = self.object_of(
+            "check", "topology.json", "old.json", "new.json", "policy-thru.json", "plan.json", "--strict", folder=folder
+        )
         self.assertEqual((3, "warnings"), (status, value["verdict"]))
         self.assertEqual("demands[0].thru", value["warnings"][0]["places"][0]["member"])
 
@@ -147,7 +174,9 @@ class Answers(unittest.TestCase):
         status, value = self.object_of("--version")
         self.assertEqual((0, f"planner {test_front.VERSION}"), (status, value["answer"].splitlines()[0]))
         status, value = self.object_of("check", "--help")
-        self.assertEqual((0, next(one.name for one in PROVED if one.name == "check") in value["answer"]), (status, True))
+        self.assertEqual(
+            (0, next(one.name for one in PROVED if one.name == "check") in value["answer"]), (status, True)
+        )
 
 
 if __name__ == "__main__":

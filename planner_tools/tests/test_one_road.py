@@ -1,4 +1,5 @@
-"""One road: the program is run for a person by one function alone, which warns, explains, and heeds `--strict` and `--quiet`."""
+"""One road: the program is run for a person by one function alone, which warns, explains, and heeds `--strict` and
+`--quiet`."""
 import ast
 import os
 import unittest
@@ -9,10 +10,12 @@ TOOLS = os.path.join(rows.ROOT, "planner_tools")
 # The modules that begin processes, and why that is no way round.
 BEGIN = {
     "program.py": "runs and builds the program, for the module below",
-    "switches/served.py": "runs it beside the switches, while they are listened to; `conversation.py` says what it refuses by the one function",
+    "switches/beside.py": (
+        "runs it beside the switches, while they are listened to; `conversation.py` says what it refuses by the one"
+        " function"
+    ),
     "page/verdict.py": "asks for what a page shows; `page.py` says what is refused by the one function",
-    "page/layout.py": "runs graphviz",
-    "install/toolchain.py": "runs the toolchain",
+    "page/layout.py": "runs graphviz", "install/toolchain.py": "runs the toolchain",
 }
 # Those that run the program without that function, beside `program.py` itself and the one that has it.
 RUN = {
@@ -41,12 +44,26 @@ def imported(tree):
 
 def calls(tree, owner, name):
     """Whether a tree speaks of `owner.name`."""
-    return any(isinstance(node, ast.Attribute) and node.attr == name and isinstance(node.value, ast.Name) and node.value.id == owner for node in ast.walk(tree))
+    return any(
+        isinstance(node, ast.Attribute)
+        and node.attr == name
+        and isinstance(node.value, ast.Name)
+        and node.value.id == owner
+        for node in ast.walk(tree)
+    )
 
 
 class OneRoad(unittest.TestCase):
     def test_no_module_begins_a_process_beside_those_that_are_known(self):
-        found = {path for path, tree in modules() if {"subprocess", "multiprocessing", "pty"} & imported(tree) or any(calls(tree, "os", name) for name in ("system", "popen", "fork", "execv", "execvp", "posix_spawn", "posix_spawnp"))}
+        found = {
+            path
+            for path, tree in modules()
+            if {"subprocess", "multiprocessing", "pty"} & imported(tree)
+            or any(
+                calls(tree, "os", name)
+                for name in ("system", "popen", "fork", "execv", "execvp", "posix_spawn", "posix_spawnp")
+            )
+        }
         self.assertEqual(found, set(BEGIN))
 
     def test_no_module_runs_the_program_beside_the_one_function(self):
@@ -57,8 +74,16 @@ class OneRoad(unittest.TestCase):
         trees = dict(modules())
         functions = {node.name: node for node in ast.walk(trees["proved.py"]) if isinstance(node, ast.FunctionDef)}
         for name in ("run", "answer_for"):
-            self.assertTrue(any(isinstance(node, ast.Attribute) and node.attr == "for_person" for node in ast.walk(functions[name])), name)
-        for path in ("update/update.py", "switches/apply.py", "switches/comparison.py", "switches/conversation.py", "page/page.py", "show.py"):
+            self.assertTrue(
+                any(
+                    isinstance(node, ast.Attribute) and node.attr == "for_person" for node in ast.walk(functions[name])
+                ),
+                name,
+            )
+        for path in (
+            "update/update.py", "switches/apply.py", "switches/comparison.py", "switches/conversation.py",
+            "page/page.py", "show.py",
+        ):
             self.assertTrue("planner_tools.proved" in imported(trees[path]), path)
 
 

@@ -1,4 +1,5 @@
-"""Which program is run, and who may build it: trees that look like a checkout or an installation, with a build script that only notes that it was begun."""
+"""Which program is run, and who may build it: trees that look like a checkout or an installation, with a build script
+that only notes that it was begun."""
 import os
 import shutil
 import subprocess
@@ -26,7 +27,10 @@ class Trees(unittest.TestCase):
         self.root = tempfile.mkdtemp(prefix="planner-tests-")
         self.addCleanup(shutil.rmtree, self.root)
         shutil.copy(rows.FRONT_END, self.root)
-        shutil.copytree(os.path.join(rows.ROOT, "planner_tools"), os.path.join(self.root, "planner_tools"), ignore=shutil.ignore_patterns("tests", "__pycache__"))
+        shutil.copytree(
+            os.path.join(rows.ROOT, "planner_tools"), os.path.join(self.root, "planner_tools"),
+            ignore=shutil.ignore_patterns("tests", "__pycache__"),
+        )
 
     def write(self, path, text, mode=0o755):
         path = os.path.join(self.root, path)
@@ -47,8 +51,10 @@ class Trees(unittest.TestCase):
 
     def run_in_tree(self, *words, **variables):
         environment = {name: value for name, value in os.environ.items() if name != "PLANNER"}
-        done = subprocess.run([os.path.join(self.root, "planner"), *words], cwd=FOLDER, capture_output=True, text=True, timeout=rows.SECONDS, check=False,
-                              env={**environment, **variables})
+        done = subprocess.run(
+            [os.path.join(self.root, "planner"), *words], cwd=FOLDER, capture_output=True, text=True,
+            timeout=rows.SECONDS, check=False, env={**environment, **variables},
+        )
         return done.returncode, done.stdout, done.stderr
 
     def has_begun(self):
@@ -56,7 +62,10 @@ class Trees(unittest.TestCase):
 
     def test_only_a_proved_command_of_a_checkout_builds(self):
         self.checkout()
-        for words in (["page", "."], ["show", "."], ["apply", ".", "record", "--switches", "none"], ["collect", ".", "--switches", "none"]):
+        for words in (
+            ["page", "."], ["show", "."], ["apply", ".", "record", "--switches", "none"],
+            ["collect", ".", "--switches", "none"],
+        ):
             with self.subTest(words[0]):
                 status, text, said = self.run_in_tree(*words)
                 self.assertNotEqual(0, status)
@@ -83,7 +92,9 @@ class Trees(unittest.TestCase):
             self.assertEqual((0, "the shipped one says sample 4\n", ""), self.run_in_tree("sample", "4"))
         self.write("crates/planner_cli/out/planner_cli", PROGRAM)
         self.assertEqual("the shipped one says sample 4\n", self.run_in_tree("sample", "4")[1])
-        self.assertEqual("the named one says sample 4\n", self.run_in_tree("sample", "4", PLANNER=self.other("the named one"))[1])
+        self.assertEqual(
+            "the named one says sample 4\n", self.run_in_tree("sample", "4", PLANNER=self.other("the named one"))[1]
+        )
         self.assertFalse(self.has_begun())
 
     def test_over_changed_sources_it_is_built_anew_and_said_why(self):
@@ -92,12 +103,19 @@ class Trees(unittest.TestCase):
         self.write("crates/base/src/lib.rt", "bass")
         status, text, said = self.run_in_tree("sample", "4")
         self.assertEqual((125, ""), (status, text))
-        self.assertEqual(f"planner: the program is proved and built first: {test_shipped.OTHER_SOURCES}", said.splitlines()[0])
+        self.assertEqual(
+            f"planner: the program is proved and built first: {test_shipped.OTHER_SOURCES}", said.splitlines()[0]
+        )
         self.assertTrue(self.has_begun())
         status, text, said = self.run_in_tree("show", ".")
         self.assertEqual((125, ""), (status, text))
-        self.assertIn(f"the program isn't built yet: `python3 ../tools/build.py planner_cli` proves and builds it; {test_shipped.OTHER_SOURCES}".replace(
-            "../tools", os.path.relpath(os.path.join(self.root, "tools"), FOLDER)), said)
+        self.assertIn(
+            "the program isn't built yet: `python3 ../tools/build.py planner_cli` proves and builds it;"
+            f" {test_shipped.OTHER_SOURCES}".replace(
+                "../tools", os.path.relpath(os.path.join(self.root, "tools"), FOLDER)
+            ),
+            said,
+        )
         self.write("crates/planner_cli/out/planner_cli", PROGRAM)
         self.assertEqual((0, "the program says sample 4\n", ""), self.run_in_tree("sample", "4"))
         self.write("crates/base/src/lib.rt", "base")
@@ -105,14 +123,21 @@ class Trees(unittest.TestCase):
 
     def test_where_there_is_none_it_is_said(self):
         self.checkout()
-        self.assertEqual("planner: the program is proved and built first: dist/ has no program", self.run_in_tree("sample", "4")[2].splitlines()[0])
+        self.assertEqual(
+            "planner: the program is proved and built first: dist/ has no program",
+            self.run_in_tree("sample", "4")[2].splitlines()[0],
+        )
 
     def test_the_version_says_which_program_is_run(self):
         other = self.other("another")
-        built, shipped = (os.path.join(self.root, path) for path in ("crates/planner_cli/out/planner_cli", "dist/planner_cli"))
+        built, shipped = (
+            os.path.join(self.root, path) for path in ("crates/planner_cli/out/planner_cli", "dist/planner_cli")
+        )
 
         def says(line, **variables):
-            self.assertEqual((0, f"planner {VERSION}\nprogram: {line}\n", ""), self.run_in_tree("--version", **variables))
+            self.assertEqual(
+                (0, f"planner {VERSION}\nprogram: {line}\n", ""), self.run_in_tree("--version", **variables)
+            )
 
         says(f"{self.root}/planner_cli, as installed")
         says(f"{other}, which the variable PLANNER names", PLANNER=other)
@@ -148,8 +173,13 @@ class Trees(unittest.TestCase):
 
     def test_the_variable_names_another_program_but_not_the_front_end_itself(self):
         self.write("planner_cli", PROGRAM)
-        self.assertEqual("the other one says sample 4\n", self.run_in_tree("sample", "4", PLANNER=self.other("the other one"))[1])
-        self.assertEqual("the program says sample 4\n", self.run_in_tree("sample", "4", PLANNER=os.path.join(self.root, "planner"))[1])
+        self.assertEqual(
+            "the other one says sample 4\n", self.run_in_tree("sample", "4", PLANNER=self.other("the other one"))[1]
+        )
+        self.assertEqual(
+            "the program says sample 4\n",
+            self.run_in_tree("sample", "4", PLANNER=os.path.join(self.root, "planner"))[1],
+        )
 
 
 if __name__ == "__main__":

@@ -1,4 +1,5 @@
-"""Tests of the program of dist/: it is run where the files are those that it was built from, and nowhere else, whatever is remembered."""
+"""Tests of the program of dist/: it is run where the files are those that it was built from, and nowhere else, whatever
+is remembered."""
 import os
 import shutil
 import subprocess
@@ -27,9 +28,13 @@ def write(root, path, text):
 
 def fill(root, program="a program"):
     """Makes a tree that looks like a checkout with a program in dist/ that was built from its files."""
-    for path, text in (("crates.txt", CRATES), ("toolchain.txt", TOOLCHAINS), ("HANDLES", "none\n"), ("crates/base/src/lib.rt", "base"),
-                       ("crates/base/specs/Lib.antt", "says"), ("crates/base/proofs/base/Answers.antt", "why"), ("crates/top/src/lib.rt", "top"),
-                       ("crates/planner_cli/src/main.rt", "main"), ("crates/top_tests/src/lib.rt", "tests"), (shipped.PROGRAM, program)):
+    for path, text in (
+        ("crates.txt", CRATES), ("toolchain.txt", TOOLCHAINS), ("HANDLES", "none\n"),
+        ("crates/base/src/lib.rt", "base"), ("crates/base/specs/Lib.antt", "says"),
+        ("crates/base/proofs/base/Answers.antt", "why"), ("crates/top/src/lib.rt", "top"),
+        ("crates/planner_cli/src/main.rt", "main"), ("crates/top_tests/src/lib.rt", "tests"),
+        (shipped.PROGRAM, program),
+    ):
         write(root, path, text)
     os.chmod(os.path.join(root, shipped.PROGRAM), 0o755)
     tell(root)
@@ -69,9 +74,13 @@ class Shipped(unittest.TestCase):
                 self.assertIsNone(self.why_not())
 
     def test_each_change_of_what_it_is_built_from_is_seen(self):
-        for path, text in (("crates/base/src/lib.rt", "bass"), ("crates/base/specs/Lib.antt", "said"), ("crates/base/proofs/base/Answers.antt", "how"),
-                           ("crates/base/proofs/new/Answers.antt", ""), ("crates/top/specs/Lib.antt", "new"), ("HANDLES", "Net\n"),
-                           ("crates.txt", CRATES.replace("base: json", "base: json hex")), ("crates.txt", CRATES.replace("base top", "top base"))):
+        for path, text in (
+            ("crates/base/src/lib.rt", "bass"), ("crates/base/specs/Lib.antt", "said"),
+            ("crates/base/proofs/base/Answers.antt", "how"), ("crates/base/proofs/new/Answers.antt", ""),
+            ("crates/top/specs/Lib.antt", "new"), ("HANDLES", "Net\n"),
+            ("crates.txt", CRATES.replace("base: json", "base: json hex")),
+            ("crates.txt", CRATES.replace("base top", "top base")),
+        ):
             with self.subTest(path), tempfile.TemporaryDirectory() as self.root, self.remembering():
                 fill(self.root)
                 self.assertIsNone(self.why_not())
@@ -82,9 +91,13 @@ class Shipped(unittest.TestCase):
     def test_a_file_that_goes_or_gets_another_name_is_seen(self):
         with self.remembering():
             self.assertIsNone(self.why_not())
-            os.rename(os.path.join(self.root, "crates/top/src/lib.rt"), os.path.join(self.root, "crates/top/src/bil.rt"))
+            os.rename(
+                os.path.join(self.root, "crates/top/src/lib.rt"), os.path.join(self.root, "crates/top/src/bil.rt")
+            )
             self.assertEqual(self.why_not(), OTHER_SOURCES)
-            os.rename(os.path.join(self.root, "crates/top/src/bil.rt"), os.path.join(self.root, "crates/top/src/lib.rt"))
+            os.rename(
+                os.path.join(self.root, "crates/top/src/bil.rt"), os.path.join(self.root, "crates/top/src/lib.rt")
+            )
             self.assertIsNone(self.why_not())
             os.unlink(os.path.join(self.root, "crates/top/src/lib.rt"))
             self.assertEqual(self.why_not(), OTHER_SOURCES)
@@ -116,11 +129,16 @@ class Shipped(unittest.TestCase):
 
     def test_other_files_do_not_count(self):
         with self.remembering():
-            for path in ("crates/base/out/lib.a", "crates/base/must-fail/one.edit", "crates/top_tests/src/lib.rt", "crates/base/src/.lib.rt.swp",
-                         "crates/base/src/lib.rt~", "crates/other/src/lib.rt", "README.md"):
+            for path in (
+                "crates/base/out/lib.a", "crates/base/must-fail/one.edit", "crates/top_tests/src/lib.rt",
+                "crates/base/src/.lib.rt.swp", "crates/base/src/lib.rt~", "crates/other/src/lib.rt", "README.md",
+            ):
                 write(self.root, path, "new")
                 self.assertIsNone(self.why_not(), path)
-            write(self.root, "crates.txt", "# other words\n\n" + "".join(sorted(CRATES.splitlines(True)[1:], reverse=True)) + "other: base\n")
+            write(
+                self.root, "crates.txt",
+                "# other words\n\n" + "".join(sorted(CRATES.splitlines(True)[1:], reverse=True)) + "other: base\n",
+            )
             self.assertIsNone(self.why_not())
 
     def test_the_text_and_the_program_belong_together(self):
@@ -137,18 +155,27 @@ class Shipped(unittest.TestCase):
         tell(self.root, toolchain="other logic 1")
         self.assertIsNone(self.why_not())
         tell(self.root, toolchain="third logic 1")
-        self.assertEqual(self.why_not(), "toolchain.txt doesn't name the toolchain that built the program of dist/, third logic 1")
+        self.assertEqual(
+            self.why_not(), "toolchain.txt doesn't name the toolchain that built the program of dist/, third logic 1"
+        )
         tell(self.root, sources=shipped.sum_of_sources(self.root, "other logic 1"))
         self.assertEqual(self.why_not(), OTHER_SOURCES)
 
     def test_another_machine(self):
         with self.remembering():
             tell(self.root, machine="sparc Solaris")
-            self.assertEqual(self.why_not(), f"the program of dist/ is for sparc Solaris, and this is {shipped.machine()}")
-            self.assertEqual(self.why_not(), f"the program of dist/ is for sparc Solaris, and this is {shipped.machine()}")
+            self.assertEqual(
+                self.why_not(), f"the program of dist/ is for sparc Solaris, and this is {shipped.machine()}"
+            )
+            self.assertEqual(
+                self.why_not(), f"the program of dist/ is for sparc Solaris, and this is {shipped.machine()}"
+            )
             tell(self.root, glibc="2.34")
-            for version, why in (((2, 34), None), ((2, 36), None), ((3, 0), None), ((2, 9), "the program of dist/ needs the GNU C library 2.34 or a newer one"),
-                                 (None, "the program of dist/ needs the GNU C library 2.34 or a newer one")):
+            for version, why in (
+                ((2, 34), None), ((2, 36), None), ((3, 0), None),
+                ((2, 9), "the program of dist/ needs the GNU C library 2.34 or a newer one"),
+                (None, "the program of dist/ needs the GNU C library 2.34 or a newer one"),
+            ):
                 with unittest.mock.patch.object(shipped, "library", lambda version=version: version):
                     self.assertEqual(self.why_not(), why)
 
@@ -159,7 +186,10 @@ class Shipped(unittest.TestCase):
 
     def test_a_link_is_no_file_of_a_crate(self):
         path = os.path.join(self.root, "crates/base/src/a.rt")
-        for target, why in (("none", "crates/base/src can't be read: No such file or directory"), ("../specs", "crates/base/src/a.rt is no file")):
+        for target, why in (
+            ("none", "crates/base/src can't be read: No such file or directory"),
+            ("../specs", "crates/base/src/a.rt is no file"),
+        ):
             os.symlink(target, path)
             self.assertEqual(self.why_not(), why)
             os.unlink(path)
@@ -196,7 +226,9 @@ class Checkout(unittest.TestCase):
     def test_git_leaves_what_is_remembered_aside(self):
         if not os.path.isdir(os.path.join(rows.ROOT, ".git")):
             self.skipTest("no git checkout")
-        for path, is_ignored in ((shipped.SEEN, True), (f"{shipped.SEEN}.7", True), (shipped.PROGRAM, False), (shipped.TEXT, False)):
+        for path, is_ignored in (
+            (shipped.SEEN, True), (f"{shipped.SEEN}.7", True), (shipped.PROGRAM, False), (shipped.TEXT, False),
+        ):
             done = subprocess.run(["git", "check-ignore", "--quiet", "--no-index", path], cwd=rows.ROOT, check=False)
             self.assertEqual(done.returncode == 0, is_ignored, path)
 
@@ -209,7 +241,14 @@ class Checkout(unittest.TestCase):
         for name in build.needed(crates, shipped.TOP):
             folder = os.path.join(rows.ROOT, "crates", name)
             hidden = [path for path in build.files_of(folder) if os.path.relpath(path, rows.ROOT) not in files]
-            self.assertEqual([path for path in hidden if path.endswith((".rt", ".antt")) and not os.path.basename(path).startswith(".")], [])
+            self.assertEqual(
+                [
+                    path
+                    for path in hidden
+                    if path.endswith((".rt", ".antt")) and not os.path.basename(path).startswith(".")
+                ],
+                [],
+            )
 
 
 if __name__ == "__main__":

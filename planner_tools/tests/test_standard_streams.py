@@ -1,5 +1,5 @@
-"""The standard streams of the program and of the front end: an input that is a socket, that belongs to another user, that was read in part or isn't there,
-and every command without one or more of the three. PLANNER names the program."""
+"""The standard streams of the program and of the front end: an input that is a socket, that belongs to another user,
+that was read in part or isn't there, and every command without one or more of the three. PLANNER names the program."""
 import itertools
 import os
 import shutil
@@ -26,22 +26,33 @@ NOBODY = 65534
 DIRECTLY, FRONT_END = [PROGRAM], [sys.executable, "-IS", rows.FRONT_END]
 # Runs of the program, one for each of its commands, in the folder of the square.
 RUNS = [
-    "config topology.json old.json", "paths topology.json old.json policy.json", "trace topology.json old.json s1:1 untagged 10.0.0.1", f"plan {UPDATE}", f"pack {UPDATE}",
-    f"check {UPDATE} plan.json", f"certify {UPDATE} plan.json", f"explain {UPDATE} plan-at-once.json", f"simulate {UPDATE} plan.json 7 5",
-    "replay topology.json old.json plan.json schedule", "tables topology.json old.json plan.json schedule", "upgrade topology.json plan.json",
-    "import topology.json replies-s1", "emit topology.json plan.json", f"drive {UPDATE} plan.json {{0}}/input", "sample 4", f"serve {UPDATE} plan.json",
+    "config topology.json old.json", "paths topology.json old.json policy.json",
+    "trace topology.json old.json s1:1 untagged 10.0.0.1", f"plan {UPDATE}", f"pack {UPDATE}",
+    f"check {UPDATE} plan.json", f"certify {UPDATE} plan.json", f"explain {UPDATE} plan-at-once.json",
+    f"simulate {UPDATE} plan.json 7 5", "replay topology.json old.json plan.json schedule",
+    "tables topology.json old.json plan.json schedule", "upgrade topology.json plan.json",
+    "import topology.json replies-s1", "emit topology.json plan.json", f"drive {UPDATE} plan.json {{0}}/input",
+    "sample 4", f"serve {UPDATE} plan.json",
 ]
 # Runs of the commands of the front end, and of what it says of itself.
 FRONT_RUNS = [
-    "show .", "page .", "to-ofctl plan.json {0}/scripts", "from-mininet {0}/mininet", "from-graphml {0}/graph --hosts a --vlans 2 --tags 3000-3100 --capacity 9",
-    "from-ofctl topology.json s1={0}/flows", "collect topology.json --switches {0}/none", "update . --switches {0}/none", "apply . {0}/record --switches {0}/none",
-    "adopt . --switches {0}/none", "diff .", "links .", "policy .", "route topology.json {0}/prefixes", "install {0}/none/prefix", "--help", "--version", "check --help", "chek",
+    "show .", "page .", "to-ofctl plan.json {0}/scripts", "from-mininet {0}/mininet",
+    "from-graphml {0}/graph --hosts a --vlans 2 --tags 3000-3100 --capacity 9", "from-ofctl topology.json s1={0}/flows",
+    "collect topology.json --switches {0}/none", "update . --switches {0}/none",
+    "apply . {0}/record --switches {0}/none", "adopt . --switches {0}/none", "diff .", "links .", "policy .",
+    "route topology.json {0}/prefixes", "install {0}/none/prefix", "--help", "--version", "check --help", "chek",
 ]
 TEXTS = {
-    "input": "start\n", "prefixes": "10.0.0.0/24 s4:3\n", "flows": " cookie=0x0, duration=1s, table=0, n_packets=0, n_bytes=0, priority=5,ip,nw_dst=10.0.0.0/24 actions=output:2\n",
+    "input": "start\n", "prefixes": "10.0.0.0/24 s4:3\n",
+    "flows": (
+        " cookie=0x0, duration=1s, table=0, n_packets=0, n_bytes=0, priority=5,ip,nw_dst=10.0.0.0/24 actions=output:2\n"
+    ),
     "mininet": "h1 h1-eth0:s1-eth1\ns1 lo:  s1-eth1:h1-eth0 s1-eth2:s2-eth1\ns2 lo:  s2-eth1:s1-eth2\n",
-    "graph": '<graphml xmlns="http://graphml.graphdrawing.org/xmlns"><key id="d0" for="node" attr.name="label" attr.type="string"/><graph edgedefault="undirected">'
-             '<node id="0"><data key="d0">a</data></node><node id="1"><data key="d0">b</data></node><edge source="0" target="1"/></graph></graphml>\n',
+    "graph": (
+        '<graphml xmlns="http://graphml.graphdrawing.org/xmlns"><key id="d0" for="node" attr.name="label"'
+        ' attr.type="string"/><graph edgedefault="undirected"><node id="0"><data key="d0">a</data></node><node'
+        ' id="1"><data key="d0">b</data></node><edge source="0" target="1"/></graph></graphml>\n'
+    ),
 }
 CLOSED = [one for count in (1, 2, 3) for one in itertools.combinations((0, 1, 2), count)]
 FEW = [(0,), (1,), (2,), (0, 1, 2)]
@@ -50,15 +61,20 @@ FEW = [(0,), (1,), (2,), (0, 1, 2)]
 def run(how, *given, closed=(), **more):
     """A run whose words stand behind those by which a command is run, without some of the standard streams."""
     taken = " ".join(f"{number}{'<' if number == 0 else '>'}&-" for number in closed)
-    return subprocess.run(["sh", "-c", f'exec "$@" {taken}', "sh", *how, *given], cwd=SQUARE, stdout=subprocess.PIPE, stderr=subprocess.PIPE, timeout=rows.SECONDS,
-                          check=False, env={**os.environ, "PLANNER": PROGRAM}, **{"stdin": subprocess.DEVNULL, **more})
+    return subprocess.run(
+        ["sh", "-c", f'exec "$@" {taken}', "sh", *how, *given], cwd=SQUARE, stdout=subprocess.PIPE,
+        stderr=subprocess.PIPE, timeout=rows.SECONDS, check=False, env={**os.environ, "PLANNER": PROGRAM},
+        **{"stdin": subprocess.DEVNULL, **more},
+    )
 
 
 class Serving(unittest.TestCase):
     """What `serve` reads is descriptor 0."""
 
     def setUp(self):
-        self.whole = subprocess.run([PROGRAM, *SERVE], cwd=SQUARE, input=LINES, stdout=subprocess.PIPE, timeout=rows.SECONDS, check=True).stdout
+        self.whole = subprocess.run(
+            [PROGRAM, *SERVE], cwd=SQUARE, input=LINES, stdout=subprocess.PIPE, timeout=rows.SECONDS, check=True
+        ).stdout
         self.first = b"".join(b"send s%d %s\n" % (number, HELLO) for number in (1, 2, 3, 4)) + b"ok settled 0 of 2\n"
         self.assertTrue(self.whole.startswith(self.first))
         self.assertTrue(self.whole.endswith(b"ok running 1 of 2\nbad line\n"), self.whole)
@@ -108,8 +124,10 @@ class Serving(unittest.TestCase):
             os.close(writer)
             with os.fdopen(reader, "rb") as pipe:
                 try:
-                    done = subprocess.run([os.path.join(folder, "program"), *SERVE], cwd=os.path.join(folder, "square"), stdin=pipe, stdout=subprocess.PIPE, stderr=subprocess.PIPE,
-                                          timeout=rows.SECONDS, check=False, user=NOBODY)
+                    done = subprocess.run(
+                        [os.path.join(folder, "program"), *SERVE], cwd=os.path.join(folder, "square"), stdin=pipe,
+                        stdout=subprocess.PIPE, stderr=subprocess.PIPE, timeout=rows.SECONDS, check=False, user=NOBODY,
+                    )
                 except PermissionError:
                     self.skipTest("this root can't become another user")
             self.is_whole(done)
@@ -142,7 +160,8 @@ class Serving(unittest.TestCase):
 
 
 class Without(unittest.TestCase):
-    """Runs without one or more of the three: what would be written is written, or the status says that it isn't; nothing goes anywhere else."""
+    """Runs without one or more of the three: what would be written is written, or the status says that it isn't;
+    nothing goes anywhere else."""
 
     def setUp(self):
         self.folder = tempfile.mkdtemp(prefix="planner-tests-")

@@ -1,5 +1,12 @@
-"""What becomes of packets outside of the model while an update is carried out, and of what the switches keep beside their entries: said before the question."""
+"""What becomes of packets outside of the model while an update is carried out, and of what the switches keep beside
+their entries: said before the question."""
+from __future__ import annotations
+
 import re
+
+TYPE_CHECKING = False
+if TYPE_CHECKING:
+    from typing import Any, Sequence
 
 # Entries above this priority are those that a two-phase plan puts in and takes away again.
 LAST_PRIORITY = 16383
@@ -7,14 +14,15 @@ TO_CONTROLLER = re.compile(r"^# (\S+): what no entry takes is sent to the contro
 COOKIES = re.compile(r"^# (\S+): (\d+) of its entries have a cookie$", re.M)
 
 
-def meanwhile(plan, old, replies):
+def meanwhile(plan: dict[str, Any], old: Sequence[dict[str, Any]], replies: str) -> list[str]:
     """Sentences for a plan in format 2, the rules that the switches have, and the text of the file REPLIES."""
     return [*dropped(plan, old, set(TO_CONTROLLER.findall(replies))), *cookies(plan, dict(COOKIES.findall(replies)))]
 
 
-def spans(plan):
-    """By switch the rounds, from the first to the last one, in which a two-phase plan has entries that drop at an ingress port all that its other ones don't take."""
-    found = {}
+def spans(plan: dict[str, Any]) -> dict[str, tuple[int, int]]:
+    """By switch the rounds, from the first to the last one, in which a two-phase plan has entries that drop at an
+    ingress port all that its other ones don't take."""
+    found: dict[str, tuple[int, int]] = {}
     for number, changes in enumerate(plan["rounds"], 1):
         for _, at in changes:
             rule = plan["rules"][at]
@@ -23,23 +31,32 @@ def spans(plan):
     return found
 
 
-def dropped(plan, old, to_controller):
+def dropped(plan: dict[str, Any], old: Sequence[dict[str, Any]], to_controller: set[str]) -> list[str]:
     """Which packets are dropped in which rounds that aren't now."""
     lines = []
     for switch, (first, last) in spans(plan).items() if plan["kind"] == "two-phase" else ():
         rounds = f"in rounds {first} to {last} {switch} drops"
         if switch in to_controller:
-            lines.append(f"Note: {rounds} IP packets of hosts that no rule takes, as of DHCP, which it sends to the controller now.")
+            lines.append(
+                f"Note: {rounds} IP packets of hosts that no rule takes, as of DHCP, which it sends to the controller"
+                " now."
+            )
         if any(rule["switch"] == switch and rule.get("vlan", "any") == "any" for rule in old):
-            lines.append(f"Note: {rounds} IP packets of hosts with VLANs that the topology doesn't declare, which rules for any VLAN take now.")
+            lines.append(
+                f"Note: {rounds} IP packets of hosts with VLANs that the topology doesn't declare, which rules for any"
+                " VLAN take now."
+            )
     return lines
 
 
-def cookies(plan, counts):
+def cookies(plan: dict[str, Any], counts: dict[str, str]) -> list[str]:
     """That entries with cookies lose them where they are put back."""
     changed = {plan["rules"][at]["switch"] for changes in plan["rounds"] for do, at in changes if do != "insert"}
     names = sorted(name for name in counts if name in changed)
     if not names:
         return []
     told = ", ".join(f"{counts[name]} at {name}" for name in names)
-    return [f"Note: entries have cookies ({told}): one that the plan deletes, and that is put back where the update is turned back, has the cookie 0 then."]
+    return [
+        f"Note: entries have cookies ({told}): one that the plan deletes, and that is put back where the update is"
+        " turned back, has the cookie 0 then."
+    ]

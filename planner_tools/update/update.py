@@ -14,6 +14,8 @@ but refusals and the question.
 Exit status: 0 done, or nothing was to be done, or it was a dry run; 2 wrong words; otherwise that of the step that stopped it, which is named: 1 refused or not
 wanted, 3 a bad file, or warnings with --strict, 4 too few tags, 5 too small a table, 6 and 7 a file can't be read or written.
 """
+from __future__ import annotations
+
 import argparse
 import json
 import os
@@ -33,18 +35,31 @@ from planner_tools.update.meanwhile import meanwhile
 from planner_tools.update.summary import summary
 from planner_tools.voice import TELLING
 
+TYPE_CHECKING = False
+if TYPE_CHECKING:
+    from typing import Any, Callable, Sequence
+
 WANTED = ("topology", "new", "policy")
 STEPS = ("collect", "import", "plan", "check", "apply")
-# The commands of the program that make a plan, the preferred one first. A command that makes plans of fewer rounds has its place before `plan`.
+# The commands of the program that make a plan, the preferred one first. A command that makes plans of fewer rounds has
+# its place before `plan`.
 PLANNERS = ("pack", "plan")
 REFUSED, BAD_FILE, UNREADABLE, UNWRITABLE = 1, 3, 6, 7
 # What to do next where a step of the program doesn't end with 0, by the step and the status.
 NEXT = {
-    ("import", BAD_FILE): "change at the switches, or in topology.json, what it names; docs/FORMATS.md has every refusal",
-    ("plan", REFUSED): "in the tables of the switches (`old`) or in new.json (`new`) packets have no good path: `planner page {topology} {config} {policy}` shows it",
+    (
+        "import", BAD_FILE,
+    ): "change at the switches, or in topology.json, what it names; docs/FORMATS.md has every refusal",
+    ("plan", REFUSED): (
+        "in the tables of the switches (`old`) or in new.json (`new`) packets have no good path: `planner page"
+        " {topology} {config} {policy}` shows it"
+    ),
     ("plan", BAD_FILE): "correct that file; docs/FORMATS.md has every refusal",
     ("plan", 4): "no order of single changes was found, and two phases want more tags: widen `tags` in topology.json",
-    ("plan", 5): "no order of single changes was found, and two phases want more room: make room at the switch, or give its true capacity in topology.json",
+    ("plan", 5): (
+        "no order of single changes was found, and two phases want more room: make room at the switch, or give its true"
+        " capacity in topology.json"
+    ),
 }
 
 
@@ -52,33 +67,36 @@ NEXT = {
 NEXT_OF_KIND = {
     ("ordered", REFUSED): "without --ordered a two-phase plan is made, where there are tags and room for it",
     ("two-phase", 4): "two phases want more tags: widen `tags` in topology.json, or leave --two-phase out",
-    ("two-phase", 5): "two phases want more room: make room at the switch, give its true capacity in topology.json, or leave --two-phase out",
+    ("two-phase", 5): (
+        "two phases want more room: make room at the switch, give its true capacity in topology.json, or leave"
+        " --two-phase out"
+    ),
 }
 
 
 class Stopped(Exception):
     """A step stopped the update before anything was sent."""
 
-    def __init__(self, step, what, then, status=REFUSED):
+    def __init__(self, step: str, what: str, then: str, status: int = REFUSED) -> None:
         super().__init__(what)
         self.step, self.what, self.then, self.status = step, what, then, status
 
-    def line(self):
+    def line(self) -> str:
         where = f"step {STEPS.index(self.step) + 1} of {len(STEPS)}, {self.step}" if self.step in STEPS else self.step
         return f"stopped at {where}: {self.what}. Nothing was sent" + (f". Next: {self.then}" if self.then else "")
 
 
 class Update:
-    def __init__(self, options):
+    def __init__(self, options: argparse.Namespace) -> None:
         self.options = options
         self.how, self.warnings = How(options.quiet, options.strict), 0
         self.files = {name: os.path.join(options.folder, f"{name}.json") for name in WANTED}
-        self.made = None
+        self.made: str | None = None
 
-    def path(self, name):
-        return os.path.join(self.made, name)
+    def path(self, name: str) -> str:
+        return os.path.join(self.made or "", name)
 
-    def run(self):
+    def run(self) -> int:
         """Does all steps, and returns the exit status."""
         self.look()
         self.warn()
@@ -99,29 +117,40 @@ class Update:
         self.ask()
         return self.apply()
 
-    def look(self):
+    def look(self) -> None:
         """Sees that the files are there."""
         for path in (*self.files.values(), self.options.switches):
             try:
                 with open(path, "rb") as file:
                     file.read(1)
             except OSError as fault:
-                raise Stopped("the files", f"{path} can't be read: {fault.strerror}", f"{self.options.folder} has to have {', '.join(f'{name}.json' for name in WANTED)}", UNREADABLE) from fault
+                raise Stopped(
+                    "the files", f"{path} can't be read: {fault.strerror}",
+                    f"{self.options.folder} has to have {', '.join(f'{name}.json' for name in WANTED)}", UNREADABLE,
+                ) from fault
         try:
             with open(self.files["topology"], encoding="utf-8") as file:
                 self.switches = len(json.load(file)["switches"])
         except (ValueError, KeyError, TypeError, RecursionError) as fault:
             say_why("config", self.files["topology"], self.files["new"], self.files["policy"])
-            raise Stopped("the files", f"{self.files['topology']} is no topology", "docs/FORMATS.md has the members of one", BAD_FILE) from fault
+            raise Stopped(
+                "the files", f"{self.files['topology']} is no topology", "docs/FORMATS.md has the members of one",
+                BAD_FILE,
+            ) from fault
 
-    def warn(self):
+    def warn(self) -> None:
         """Says what there is to warn of in the files. The runs behind that say no warning."""
-        self.warnings, is_ended = look(self.how, "config", self.files["topology"], self.files["new"], self.files["policy"])
+        self.warnings, is_ended = look(
+            self.how, "config", self.files["topology"], self.files["new"], self.files["policy"]
+        )
         if is_ended:
-            raise Stopped("the files", "there are warnings, and --strict is given", "correct what they name, or leave out --strict", BAD_FILE)
+            raise Stopped(
+                "the files", "there are warnings, and --strict is given",
+                "correct what they name, or leave out --strict", BAD_FILE,
+            )
         self.how = self.how.behind_warnings()
 
-    def make_folder(self):
+    def make_folder(self) -> None:
         """Makes a new folder for this update."""
         number = 1
         while True:
@@ -132,24 +161,32 @@ class Update:
             except FileExistsError:
                 number += 1
             except OSError as fault:
-                raise Stopped("the files", f"{self.made} can't be made: {fault.strerror}", "see that the folder may be written to", UNWRITABLE) from fault
+                raise Stopped(
+                    "the files", f"{self.made} can't be made: {fault.strerror}",
+                    "see that the folder may be written to", UNWRITABLE,
+                ) from fault
 
-    def write(self, name, text):
+    def write(self, name: str, text: str) -> None:
         try:
             with open(self.path(name), "x", encoding="utf-8") as file:
                 file.write(text)
         except OSError as fault:
-            raise Stopped("the files", f"{self.path(name)} can't be written: {fault.strerror}", "make room, and begin again", UNWRITABLE) from fault
+            raise Stopped(
+                "the files", f"{self.path(name)} can't be written: {fault.strerror}", "make room, and begin again",
+                UNWRITABLE,
+            ) from fault
 
-    def connection_words(self):
+    def connection_words(self) -> list[str]:
         words = ["--switches", self.options.switches]
         return words + (["--listen", self.options.listen] if self.options.listen else [])
 
-    def collect(self):
+    def collect(self) -> str:
         """What the switches answer for their tables."""
         progress(f"step 1: the tables of {self.switches} switches are read")
-        asked = argparse.Namespace(topology=self.files["topology"], switches=self.options.switches, patience=self.options.patience,
-                                   listen=host_and_port(self.options.listen) if self.options.listen else None)
+        asked = argparse.Namespace(
+            topology=self.files["topology"], switches=self.options.switches, patience=self.options.patience,
+            listen=host_and_port(self.options.listen) if self.options.listen else None,
+        )
         try:
             tables = collect.read(asked)
             found = under_way.find(self.options.folder, tables, self.apply_line)
@@ -160,7 +197,7 @@ class Update:
             say(f"stopped: {stop}. Next: {getattr(stop, 'then', 'see to it, and ask again')}")
             raise Stopped("collect", "the lines above say why", "") from stop
 
-    def of_program(self, step, command, *words):
+    def of_program(self, step: str, command: str, *words: str) -> str:
         """What a command of the program writes, where it ends with 0."""
         status, text = answer_for(self.how, command, *words)
         self.see_that_it_is_heard()
@@ -168,11 +205,16 @@ class Update:
             return text
         then = NEXT.get((step, status), "docs/FORMATS.md has every refusal")
         if text.startswith(("no ordered plan\n", "too ")):
-            then = next((NEXT_OF_KIND[kind, status] for kind in self.options.kind if (kind, status) in NEXT_OF_KIND), then)
+            then = next(
+                (NEXT_OF_KIND[kind, status] for kind in self.options.kind if (kind, status) in NEXT_OF_KIND), then
+            )
         config = self.path("old.json") if " old " in text else self.files["new"]
-        raise Stopped(step, f"`planner {command}` says: {'; '.join(text.splitlines()) or f'nothing, with status {status}'}", then.format(config=config, **self.files), status)
+        raise Stopped(
+            step, f"`planner {command}` says: {'; '.join(text.splitlines()) or f'nothing, with status {status}'}",
+            then.format(config=config, **self.files), status,
+        )
 
-    def plan(self):
+    def plan(self) -> dict[str, Any]:
         """The plan, which `check` accepts."""
         files = [self.files["topology"], self.path("old.json"), self.files["new"], self.files["policy"]]
         text = self.of_program("plan", PLANNERS[0], *files, *self.options.kind)
@@ -181,68 +223,94 @@ class Update:
         progress(self.of_program("check", "check", *files, self.path("plan.json")).strip())
         return json.loads(text)
 
-    def keep_files(self):
+    def keep_files(self) -> None:
         """Keeps the files of the update with it: its record is taken up with these, whatever becomes of the others."""
         for name, path in self.files.items():
             try:
                 shutil.copyfile(path, self.path(f"{name}.json"))
             except OSError as fault:
-                raise Stopped("the files", f"{self.path(name)}.json can't be written: {fault.strerror}", "make room, and begin again", UNWRITABLE) from fault
+                raise Stopped(
+                    "the files", f"{self.path(name)}.json can't be written: {fault.strerror}",
+                    "make room, and begin again", UNWRITABLE,
+                ) from fault
 
-    def show(self, plan):
-        """Shows what the plan does: entry by entry where somebody is asked or only looks, in a summary, what changes for whom, and what is to be known of
-        packets outside of the model and of cookies."""
-        tell = progress if self.options.yes or self.options.dry_run else say
+    def show(self, plan: dict[str, Any]) -> None:
+        """Shows what the plan does: entry by entry where somebody is asked or only looks, in a summary, what changes
+        for whom, and what is to be known of packets outside of the model and of cookies."""
+        tell: Callable[..., None] = say
+        if self.options.yes or self.options.dry_run:
+            tell = progress
         whom = diff.summary(self.files["topology"], self.path("old.json"), self.files["new"], self.files["policy"])
         other = self.other_words(OTHER[plan["kind"]]) if self.options.dry_run or not self.options.yes else []
-        told = [*summary(plan, self.switches, None if self.options.ask else self.options.wait), *other, *whom, *self.meanwhile(plan)]
+        told = [
+            *summary(plan, self.switches, None if self.options.ask else self.options.wait), *other, *whom,
+            *self.meanwhile(plan),
+        ]
         for line in [*([] if self.options.yes else self.entries(plan)), *told]:
             tell(line)
 
-    def entries(self, plan):
+    def entries(self, plan: dict[str, Any]) -> list[str]:
         """The lines of `show` for a plan."""
-        network, rules = nets.Network(read_json(self.files["topology"])), nets.plain(read_json(self.path("old.json")).root)["rules"]
-        lines = show.plan_lines(self.path("plan.json"), show.plan_values(plan, rules, network, self.options.wait), network, rules)
+        network, rules = (
+            nets.Network(read_json(self.files["topology"])), nets.plain(read_json(self.path("old.json")).root)["rules"],
+        )
+        lines = show.plan_lines(
+            self.path("plan.json"), show.plan_values(plan, rules, network, self.options.wait), network, rules
+        )
         return [line for line in lines if not (self.options.ask and line.startswith("time: "))] + [""]
 
-    def meanwhile(self, plan):
+    def meanwhile(self, plan: dict[str, Any]) -> list[str]:
         """What is to be known of packets outside of the model, and of cookies."""
-        with open(self.path("old.json"), encoding="utf-8") as old, open(self.path("replies"), encoding="ascii") as replies:
+        with open(self.path("old.json"), encoding="utf-8") as old, open(
+            self.path("replies"), encoding="ascii"
+        ) as replies:
             return meanwhile(plan, json.load(old)["rules"], replies.read())
 
-    def see_that_it_is_heard(self):
+    def see_that_it_is_heard(self) -> None:
         if TELLING.fault is not None:
-            raise Stopped("the question", "the error stream is closed, and nobody hears what happens", "do it where its lines are read")
+            raise Stopped(
+                "the question", "the error stream is closed, and nobody hears what happens",
+                "do it where its lines are read",
+            )
 
-    def other_words(self, kind):
+    def other_words(self, kind: str) -> list[str]:
         """What a plan of a kind would cost, or why there is none."""
         files = [self.files["topology"], self.path("old.json"), self.files["new"], self.files["policy"]]
         return Costs(program.run, files, None if self.options.ask else self.options.wait).other_words(kind)
 
-    def ask(self):
+    def ask(self) -> None:
         self.see_that_it_is_heard()
         if self.options.yes:
             return
         if sys.stdin is None or not sys.stdin.isatty():
-            raise Stopped("the question", "there is no terminal to ask", "answer it with --yes, or look first with --dry-run")
+            raise Stopped(
+                "the question", "there is no terminal to ask", "answer it with --yes, or look first with --dry-run"
+            )
         if self.warnings:
-            say(f"There {'is 1 warning' if self.warnings == 1 else f'are {self.warnings} warnings'}: see the first lines.")
+            say(
+                f"There {'is 1 warning' if self.warnings == 1 else f'are {self.warnings} warnings'}: see the first"
+                " lines."
+            )
         say("Carry it out? [y/N] ", end="")
         self.see_that_it_is_heard()
         if sys.stdin.readline().strip().lower() not in ("y", "yes"):
             raise Stopped("the question", "it isn't wanted", f"the plan stays in {self.path('plan.json')}")
 
-    def apply_words(self, files=None, record=None):
+    def apply_words(self, files: Sequence[str] | None = None, record: str | None = None) -> list[str]:
         """The words of `planner apply` for this update, or for the files and the record of another one."""
         files = files or [self.path(f"{name}.json") for name in ("topology", "old", "new", "policy", "plan")]
         wait = ["--ask"] if self.options.ask else ["--wait", f"{self.options.wait:g}"]
-        return [program.typed(), "apply", *files, record or self.path("record"), *self.connection_words(), *wait, "--patience", f"{self.options.patience:g}"]
+        return [
+            program.typed(), "apply", *files, record or self.path("record"), *self.connection_words(), *wait,
+            "--patience", f"{self.options.patience:g}",
+        ]
 
-    def apply_line(self, files, record):
+    def apply_line(self, files: Sequence[str], record: str) -> str:
         return shlex.join(self.apply_words(files, record))
 
-    def apply(self):
-        """Carries the plan out. What stands in the way is said by `apply` itself; behind it come the lines to go on with and to turn back with."""
+    def apply(self) -> int:
+        """Carries the plan out. What stands in the way is said by `apply` itself; behind it come the lines to go on
+        with and to turn back with."""
         words = self.apply_words()
         status = apply.main(words[2:], self.how)
         record = self.path("record")
@@ -257,8 +325,10 @@ class Update:
         return status
 
 
-def main(words):
-    parser = argparse.ArgumentParser(prog="planner update", description=__doc__, formatter_class=argparse.RawDescriptionHelpFormatter)
+def main(words: Sequence[str]) -> int:
+    parser = argparse.ArgumentParser(
+        prog="planner update", description=__doc__, formatter_class=argparse.RawDescriptionHelpFormatter
+    )
     parser.add_argument("folder", metavar="DIR")
     parser.add_argument("--switches", metavar="FILE", required=True)
     parser.add_argument("--listen", metavar="HOST:PORT")
@@ -285,7 +355,7 @@ def main(words):
         events.tell("stopped", what=stop.what, far="nothing was sent", next=stop.then)
         say(stop.line())
         return stop.status
-    except program.NoProgram as fault:
+    except program.CannotRun as fault:
         say(f"stopped: {fault}. Nothing was sent")
         return program.NO_PROGRAM
     except KeyboardInterrupt as why:

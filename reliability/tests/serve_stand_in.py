@@ -1,6 +1,6 @@
 #!/usr/bin/env python3
-"""A stand-in for the program in the tests of serve.py: it accepts each plan, and `drive` and `serve` say what the model says, or something else where the
-variable FAULT has the name of a fault. Of updates it plans none."""
+"""A stand-in for the program in the tests of serve.py: it accepts each plan, and `drive` and `serve` say what the model
+says, or something else where the variable FAULT has the name of a fault. Of updates it plans none."""
 import json
 import os
 import pathlib

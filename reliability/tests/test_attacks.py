@@ -1,5 +1,5 @@
-"""Tests that the scripts of this folder find faults: against a stand-in that does something wrong they say so, against one that doesn't they don't.
-The program itself isn't needed:
+"""Tests that the scripts of this folder find faults: against a stand-in that does something wrong they say so, against
+one that doesn't they don't. The program itself isn't needed:
 
     cd reliability && python3 -B -m unittest discover -s tests"""
 import argparse
@@ -33,7 +33,9 @@ class WithFolder(unittest.TestCase):
 
     def stand_in(self, *faults):
         built = self.folder / "stand_in"
-        subprocess.run(["cc", *(f"-D{fault}" for fault in faults), "-o", str(built), str(HERE / "stand_in.c")], check=True)
+        subprocess.run(
+            ["cc", *(f"-D{fault}" for fault in faults), "-o", str(built), str(HERE / "stand_in.c")], check=True
+        )
         return str(built)
 
     @staticmethod
@@ -85,7 +87,9 @@ class FailingCalls(WithFolder):
 class MemoryLimits(WithFolder):
     def found(self, *faults):
         attack = memory_limits.Attack(("upgrade", "square/topology.json", "plan.json"), "plan.json", "numbers")
-        return self.quietly(memory_limits.attack_all, self.stand_in("TAKES=100000000", *faults), self.folder, [attack], 100000)[0]
+        return self.quietly(
+            memory_limits.attack_all, self.stand_in("TAKES=100000000", *faults), self.folder, [attack], 100000
+        )[0]
 
     def test_a_careful_program_passes(self):
         found = self.found()
@@ -119,7 +123,10 @@ class Exploring(WithFolder):
 
     def test_all_at_once_has_one(self):
         wrong = self.explored("square", "plan-at-once.json")[2]
-        self.assertIn((["start", "change 1", "enter s1:1 untagged 10.0.0.0", "hop 0", "hop 0", "hop 0"], "came to s1 again"), wrong)
+        self.assertIn(
+            (["start", "change 1", "enter s1:1 untagged 10.0.0.0", "hop 0", "hop 0", "hop 0"], "came to s1 again"),
+            wrong,
+        )
 
     def wrong_with_rounds(self, kept, demands):
         """What is wrong with the plan of the detour network where only these of its rounds, from 0, are carried out."""
@@ -138,14 +145,17 @@ class Exploring(WithFolder):
         self.assertEqual(self.wrong_with_rounds([0, 1, 2, 3], False), set())
 
     def fails_over_the_square(self, check_status):
-        """Whether the script finds fault with a program that plans the square network all at once, and whose check ends so."""
+        """Whether the script finds fault with a program that plans the square network all at once, and whose check ends
+        so."""
         liar = self.folder / "liar"
         plan = runs.ROOT / "examples" / "square" / "plan-at-once.json"
         liar.write_text(f'#!/bin/sh\n[ "$1" = check ] && exit {check_status}\ncat {plan}\n')
         liar.chmod(0o755)
         square = explore.example("square")
         with unittest.mock.patch.object(explore, "example", lambda name: square):
-            return self.quietly(explore.accepted, str(liar), argparse.Namespace(networks=0, seed=1, pairs=0), self.folder)
+            return self.quietly(
+                explore.accepted, str(liar), argparse.Namespace(networks=0, seed=1, pairs=0), self.folder
+            )
 
     def test_a_program_that_accepts_all_at_once_is_found(self):
         self.assertTrue(self.fails_over_the_square(0))
@@ -162,7 +172,9 @@ class Exploring(WithFolder):
         other = model.rule_in({"priority": 1, "dst": "10.0.0.0/8", "out": "drop"})
         self.assertEqual(model.outcomes(network, {1: rule}, "a", 1, 0, 0x0A000000), {("leave", 2, 5)})
         self.assertEqual(model.outcomes(network, {1: rule}, "a", 2, 0, 0x0A000000), {("drop",)})
-        self.assertEqual(model.outcomes(network, {1: rule, 2: other}, "a", 1, 0, 0x0A000000), {("drop",), ("leave", 2, 5)})
+        self.assertEqual(
+            model.outcomes(network, {1: rule, 2: other}, "a", 1, 0, 0x0A000000), {("drop",), ("leave", 2, 5)}
+        )
         self.assertEqual(model.outcomes(network, {}, "a", 1, 0, 0x0A000000), {("drop",)})
 
 
@@ -182,7 +194,9 @@ class Explained(unittest.TestCase):
         self.assertEqual((0, self.number), explain.shown_by(self.motion, self.RUN))
 
     def test_runs_that_show_nothing(self):
-        for events in (self.RUN[:-1], self.RUN + ["change 0"], ["start", *self.RUN], [*self.RUN[:4], "change 0", "hop 0"]):
+        for events in (
+            self.RUN[:-1], self.RUN + ["change 0"], ["start", *self.RUN], [*self.RUN[:4], "change 0", "hop 0"],
+        ):
             self.assertIsNone(explain.shown_by(self.motion, events))
 
     def test_a_plan_that_breaks_nothing(self):

@@ -1,5 +1,6 @@
-"""Tests of the model of `serve`: blocks that were written by hand, and what holds of each list of lines; of the lists that serve.py makes; and that this
-script finds a program that says something else. Those that compare the model with `drive` need the program, and are left out where PLANNER names none:
+"""Tests of the model of `serve`: blocks that were written by hand, and what holds of each list of lines; of the lists
+that serve.py makes; and that this script finds a program that says something else. Those that compare the model with
+`drive` need the program, and are left out where PLANNER names none:
 
     cd reliability && PLANNER=PROGRAM python3 -B -m unittest discover -s tests -p 'test_serve*.py'"""
 import argparse
@@ -43,14 +44,30 @@ def replace(xid, port, address="0a000000"):
 
 def dropping(xid, command, length="0048"):
     """Inserts (0) or deletes (4) the entry of priority 16384 that drops all of VLAN 3000."""
-    return f"010e{length}{xid:08x}003820ed0000" + 24 * "0" + "0bb800000800" + 16 * "0" + 16 * "0" + 16 * "0" + f"{command:04x}000000004000ffffffffffff0000"
+    return (
+        f"010e{length}{xid:08x}003820ed0000"
+        + 24 * "0"
+        + "0bb800000800"
+        + 16 * "0"
+        + 16 * "0"
+        + 16 * "0"
+        + f"{command:04x}000000004000ffffffffffff0000"
+    )
 
 
 def sending(xid, command, port):
     """Inserts (0) or deletes (4) the entry of priority 16484 for VLAN 3000 and 10.0.0.0/24, which sends to a port."""
     actions = f"00000008{port:04x}0000" if command == 0 else ""
-    return (f"010e{72 + len(actions) // 2:04x}{xid:08x}003220ed0000" + 24 * "0" + "0bb800000800" + 16 * "0" + "0a00000000000000" + 16 * "0"
-            + f"{command:04x}000000004064ffffffffffff0000" + actions)
+    return (
+        f"010e{72 + len(actions) // 2:04x}{xid:08x}003220ed0000"
+        + 24 * "0"
+        + "0bb800000800"
+        + 16 * "0"
+        + "0a00000000000000"
+        + 16 * "0"
+        + f"{command:04x}000000004064ffffffffffff0000"
+        + actions
+    )
 
 
 def barrier(xid):
@@ -91,7 +108,9 @@ class Written(unittest.TestCase):
 
 class Forward(Written):
     def test_line_0(self):
-        self.assertEqual([*(f"send {name} {HELLO}" for name in ("s1", "s2", "s3", "s4")), "ok settled 0 of 2"], self.begun())
+        self.assertEqual(
+            [*(f"send {name} {HELLO}" for name in ("s1", "s2", "s3", "s4")), "ok settled 0 of 2"], self.begun()
+        )
 
     def test_an_update(self):
         self.both_rounds()
@@ -104,7 +123,10 @@ class Forward(Written):
         self.say("feed s3 04000008000000", "ok settled 0 of 2")
         self.say("feed s3 05", "ok settled 0 of 2")
         self.say("start", "start", f"send s1 {replace(1, 4)}", f"send s1 {barrier(2)}", "ok running 1 of 2")
-        self.say(f"feed s1 0102000c0000000900FF00fF{reply(2)}010a0009", "send s1 0103000c0000000900ff00ff", "change 0", "settle", "ok settled 1 of 2")
+        self.say(
+            f"feed s1 0102000c0000000900FF00fF{reply(2)}010a0009", "send s1 0103000c0000000900ff00ff", "change 0",
+            "settle", "ok settled 1 of 2",
+        )
 
     def test_starts_that_are_refused(self):
         self.begun()
@@ -120,17 +142,23 @@ class Forward(Written):
 
     def test_lines_that_are_bad_and_comments(self):
         self.begun()
-        for line in ("start ", " start", "START", "feed", "feed s1", "feed s1 ", "feed s1 0", "feed s1 0g", "feed s9 00", "feed s1 00 00", "reopen", "reopen s9", "back s1",
-                     "feed  s1 00", "stop", " ", "start\r", "#" * 262145, "feed s1 " + "00" * 131069):
+        for line in (
+            "start ", " start", "START", "feed", "feed s1", "feed s1 ", "feed s1 0", "feed s1 0g", "feed s9 00",
+            "feed s1 00 00", "reopen", "reopen s9", "back s1", "feed  s1 00", "stop", " ", "start\r", "#" * 262145,
+            "feed s1 " + "00" * 131069,
+        ):
             self.say(line, "bad line")
         for line in ("", "#", "# start", "#" * 262144):
             self.say(line, "ok settled 0 of 2")
         self.assertEqual(["ok settled 0 of 2"], self.serve.line(b"#\xff\x00"))
 
     def test_sessions_that_fail(self):
-        for data, cause in (("0000000800000000", "Version"), ("0400000800000000" "0413000800000001", "Version"), ("0100000700000000", "Length"),
-                            (reply(1), "NoHello"), (HELLO + "0113000900000001", "Length"), (HELLO + "0101000b00000001", "Length"),
-                            (HELLO + "0101000c0000000100030002", "Error 3 2"), (HELLO + reply(4294967295), "Xid 4294967295")):
+        for data, cause in (
+            ("0000000800000000", "Version"), ("04000008000000000413000800000001", "Version"),
+            ("0100000700000000", "Length"), (reply(1), "NoHello"), (HELLO + "0113000900000001", "Length"),
+            (HELLO + "0101000b00000001", "Length"), (HELLO + "0101000c0000000100030002", "Error 3 2"),
+            (HELLO + reply(4294967295), "Xid 4294967295"),
+        ):
             self.begun()
             self.say(f"feed s2 {data}{HELLO}", f"failed s2 {cause}", "ok settled 0 of 2")
             self.say(f"feed s2 {HELLO}{reply(7)}", "ok settled 0 of 2")
@@ -197,7 +225,8 @@ class Back(Written):
         self.say("back", "back", f"send s3 {replace(5, 2)}", f"send s3 {barrier(6)}", "ok running 2 of 2")
 
     def test_a_round_of_a_dozen_is_turned_in_the_middle(self):
-        """The round is carried out at l1 and, unknown to the driver, at l2; l3 isn't connected any more when it is turned."""
+        """The round is carried out at l1 and, unknown to the driver, at l2; l3 isn't connected any more when it is
+        turned."""
         self.begun("leaf-spine", in_one_round(plan_of("leaf-spine")))
         self.open("l1", "l2", "l3", "l4")
         self.serve.line(b"start")
@@ -208,26 +237,49 @@ class Back(Written):
             prefixes = [number for number in (4, 3, 2, 1) if f"l{number}" != name]
             return [f"send {name} {replace(xid + at, 3, f'0a01{number:02x}00')}" for at, number in enumerate(prefixes)]
 
-        self.say("back", *taken_back("l4", 17), *taken_back("l2", 23), *taken_back("l1", 26), f"send l1 {barrier(29)}", f"send l2 {barrier(30)}",
-                 f"send l4 {barrier(32)}", "ok running 1 of 1")
+        self.say(
+            "back", *taken_back("l4", 17), *taken_back("l2", 23), *taken_back("l1", 26), f"send l1 {barrier(29)}",
+            f"send l2 {barrier(30)}", f"send l4 {barrier(32)}", "ok running 1 of 1",
+        )
         self.say(f"feed l1 {reply(29)}", "undo 2", "undo 1", "undo 0", "ok running 1 of 1")
-        self.say(f"feed l4 {reply(16)}{reply(32)}", "change 9", "change 10", "change 11", "undo 11", "undo 10", "undo 9", "ok running 1 of 1")
+        self.say(
+            f"feed l4 {reply(16)}{reply(32)}", "change 9", "change 10", "change 11", "undo 11", "undo 10", "undo 9",
+            "ok running 1 of 1",
+        )
         self.say("reopen l3", f"send l3 {HELLO}", "ok running 1 of 1")
         self.say(f"feed l3 {HELLO}", *taken_back("l3", 20), f"send l3 {barrier(31)}", "ok running 1 of 1")
         self.say(f"feed l3 {reply(31)}", "ok running 1 of 1")
-        self.say(f"feed l2 {reply(14)}{reply(30)}", "change 3", "change 4", "change 5", "undo 5", "undo 4", "undo 3", "settle", "ok settled 0 of 1")
+        self.say(
+            f"feed l2 {reply(14)}{reply(30)}", "change 3", "change 4", "change 5", "undo 5", "undo 4", "undo 3",
+            "settle", "ok settled 0 of 1",
+        )
 
     def test_inserts_and_deletes_take_each_other_back(self):
         plan = plan_of("detour")
-        plan["rounds"] = [plan["rounds"][0][2:4], plan["rounds"][7][2:4]]        # two inserts at x, and later their deletes
+        # two inserts at x, and later their deletes
+        plan["rounds"] = [plan["rounds"][0][2:4], plan["rounds"][7][2:4]]
         self.begun("detour", plan)
         self.open("x")
-        self.say("start", "start", f"send x {sending(1, 0, 3)}", f"send x {dropping(2, 0)}", f"send x {barrier(3)}", "ok running 1 of 2")
+        self.say(
+            "start", "start", f"send x {sending(1, 0, 3)}", f"send x {dropping(2, 0)}", f"send x {barrier(3)}",
+            "ok running 1 of 2",
+        )
         self.say(f"feed x {reply(3)}", "change 0", "change 1", "settle", "ok settled 1 of 2")
-        self.say("start", "start", f"send x {sending(4, 4, 3)}", f"send x {dropping(5, 4)}", f"send x {barrier(6)}", "ok running 2 of 2")
-        self.say("back", f"send x {dropping(7, 0)}", f"send x {sending(8, 0, 3)}", f"send x {barrier(9)}", "ok running 2 of 2")
-        self.say(f"feed x {reply(6)}{reply(9)}", "change 0", "change 1", "undo 1", "undo 0", "settle", "ok settled 1 of 2")
-        self.say("back", "back", f"send x {dropping(10, 4)}", f"send x {sending(11, 4, 3)}", f"send x {barrier(12)}", "ok running 1 of 2")
+        self.say(
+            "start", "start", f"send x {sending(4, 4, 3)}", f"send x {dropping(5, 4)}", f"send x {barrier(6)}",
+            "ok running 2 of 2",
+        )
+        self.say(
+            "back", f"send x {dropping(7, 0)}", f"send x {sending(8, 0, 3)}", f"send x {barrier(9)}",
+            "ok running 2 of 2",
+        )
+        self.say(
+            f"feed x {reply(6)}{reply(9)}", "change 0", "change 1", "undo 1", "undo 0", "settle", "ok settled 1 of 2"
+        )
+        self.say(
+            "back", "back", f"send x {dropping(10, 4)}", f"send x {sending(11, 4, 3)}", f"send x {barrier(12)}",
+            "ok running 1 of 2",
+        )
 
     def test_behind_the_greatest_number_comes_1(self):
         self.both_rounds()
@@ -246,7 +298,9 @@ class Reopen(Written):
         for name in ("l1", "l2"):
             self.say(f"reopen {name}", f"send {name} {HELLO}", "ok running 1 of 1")
         self.say(f"feed l1 {HELLO}", "ok running 1 of 1")
-        self.say(f"feed l2 {HELLO}{HELLO}", *(line for line in said if line.startswith("send l2 ")), "ok running 1 of 1")
+        self.say(
+            f"feed l2 {HELLO}{HELLO}", *(line for line in said if line.startswith("send l2 ")), "ok running 1 of 1"
+        )
         self.say(f"feed l2 {reply(14)}", "change 3", "change 4", "change 5", "ok running 1 of 1")
         self.say(f"feed l1 {reply(13)}", "failed l1 Xid 13", "ok running 1 of 1")
 
@@ -287,7 +341,10 @@ class Random(unittest.TestCase):
 
     @classmethod
     def setUpClass(cls):
-        for name, plan in (("square", plan_of("square")), ("detour", plan_of("detour")), ("leaf-spine", in_one_round(plan_of("leaf-spine")))):
+        for name, plan in (
+            ("square", plan_of("square")), ("detour", plan_of("detour")),
+            ("leaf-spine", in_one_round(plan_of("leaf-spine"))),
+        ):
             update = explore.example(name)
             for restless, seed in itertools.product((serve.RESTLESS, 0.4), range(8)):
                 made = serve.Lines(random.Random(f"{name} {restless} {seed}"), update, plan, False, restless).go_on(300)
@@ -306,26 +363,39 @@ class Random(unittest.TestCase):
         self.assertEqual({"settled", "running", "finished", "begun", "open", "line"}, ends)
 
     def test_sessions_begin_anew_in_all_stages(self):
-        """Rounds are begun and turned while a session isn't open, and sessions open while messages of either way wait for them."""
+        """Rounds are begun and turned while a session isn't open, and sessions open while messages of either way wait
+        for them."""
         met = collections.Counter()
         for update, plan, made in self.lists():
             again = model.Serve(update["topology"], update["old"], plan)
             again.begin()
             for line in made.lines:
-                way, waiting = again.sending and again.sending.way, {name for name, one in again.sessions.items() if one.state != model.OPEN}
+                way, waiting = again.sending and again.sending.way, {
+                    name for name, one in again.sessions.items() if one.state != model.OPEN
+                }
                 unanswered = again.sending.unanswered & waiting if again.sending else set()
                 block, word = again.line(line), line.split(b" ")[0].decode("latin-1")
-                met[word, way, "no open" if block[-1].startswith("no open") else "ok" if block[-1].startswith("ok ") else "no"] += 1
+                met[
+                    word, way,
+                    "no open" if block[-1].startswith("no open") else "ok" if block[-1].startswith("ok ") else "no",
+                ] += 1
                 met[word, way, "waits"] += unanswered != set()
-                met[word, way, "sent again"] += word == "feed" and any(line.startswith("send ") and line.split(" ")[2].startswith("010e") for line in block)
+                met[word, way, "sent again"] += word == "feed" and any(
+                    line.startswith("send ") and line.split(" ")[2].startswith("010e") for line in block
+                )
                 met[word, way, "Xid"] += any(" Xid " in line for line in block)
-        for what, least in ((("reopen", None, "ok"), 50), (("reopen", model.FORWARD, "waits"), 20), (("reopen", model.BACK, "waits"), 100),
-                            (("feed", model.FORWARD, "sent again"), 20), (("feed", model.BACK, "sent again"), 100), (("feed", model.BACK, "Xid"), 10),
-                            (("back", model.FORWARD, "waits"), 10), (("back", None, "no open"), 0), (("start", None, "no open"), 50), (("start", model.BACK, "no"), 100)):
+        for what, least in (
+            (("reopen", None, "ok"), 50), (("reopen", model.FORWARD, "waits"), 20),
+            (("reopen", model.BACK, "waits"), 100), (("feed", model.FORWARD, "sent again"), 20),
+            (("feed", model.BACK, "sent again"), 100), (("feed", model.BACK, "Xid"), 10),
+            (("back", model.FORWARD, "waits"), 10), (("back", None, "no open"), 0), (("start", None, "no open"), 50),
+            (("start", model.BACK, "no"), 100),
+        ):
             self.assertGreater(met[what], least, what)
 
     def test_the_events_are_a_run(self):
-        """A round is settled where all its changes are in force, or none, and the next event fits to what is in force."""
+        """A round is settled where all its changes are in force, or none, and the next event fits to what is in
+        force."""
         for _, plan, made in self.lists():
             settled, flags, way = 0, None, 0
             for event in made.serve.events:
@@ -344,7 +414,8 @@ class Random(unittest.TestCase):
             self.assertEqual((settled, flags is not None), (made.serve.settled, made.serve.sending is not None))
 
     def test_the_messages_lead_to_the_tables(self):
-        """Where no round runs the messages have made the tables of the rounds that are settled, whatever was turned and sent again on the way."""
+        """Where no round runs the messages have made the tables of the rounds that are settled, whatever was turned and
+        sent again on the way."""
         for _, _, made in self.lists():
             steps = [tables_of(made.names, table) for table in made.serve.tables]
             tables = tables_of(made.names, made.serve.tables[0])
@@ -365,7 +436,9 @@ class Random(unittest.TestCase):
                 words = line.split(b" ")
                 if words[0] == b"feed" and block[-1].startswith("ok ") and len(words[2]) > 2:
                     cut = 2 * rng.randint(1, len(words[2]) // 2 - 1)
-                    first, second = again.line(b" ".join([*words[:2], words[2][:cut]])), again.line(b" ".join([*words[:2], words[2][cut:]]))
+                    first, second = again.line(b" ".join([*words[:2], words[2][:cut]])), again.line(
+                        b" ".join([*words[:2], words[2][cut:]])
+                    )
                     self.assertEqual(block, [*first[:-1], *second])
                 else:
                     self.assertEqual(block, again.line(line))
@@ -398,7 +471,9 @@ class BesideDrive(unittest.TestCase):
             lines = []
             while made.settled < len(made.rounds):
                 block = made.line(b"start")
-                lines += [f"{made.settled + 1} {line.removeprefix('send ')}" for line in block if line.startswith("send ")]
+                lines += [
+                    f"{made.settled + 1} {line.removeprefix('send ')}" for line in block if line.startswith("send ")
+                ]
                 for line in block:
                     if line.startswith("send ") and line.split(" ")[2].startswith("0112"):
                         made.line(f"feed {line.split(' ')[1]} {reply(int(line[-8:], 16))}".encode())
@@ -409,10 +484,19 @@ class Script(unittest.TestCase):
     """That serve.py finds a program that says something else."""
 
     def said_of(self, fault, lists=1, names=("square", "leaf-spine")):
-        said, updates = io.StringIO(), [(name, explore.example(name), in_one_round(plan_of(name)) if name == "leaf-spine" else plan_of(name)) for name in names]
-        with (tempfile.TemporaryDirectory() as folder, contextlib.redirect_stdout(said), unittest.mock.patch.dict(os.environ, FAULT=fault),
-              unittest.mock.patch.object(serve, "updates", lambda *_: updates)):
-            is_wrong = serve.compare(str(HERE / "serve_stand_in.py"), argparse.Namespace(lists=lists, lines=400, restless=serve.RESTLESS, seed=1), pathlib.Path(folder))
+        said, updates = io.StringIO(), [
+            (name, explore.example(name), in_one_round(plan_of(name)) if name == "leaf-spine" else plan_of(name))
+            for name in names
+        ]
+        with (
+            tempfile.TemporaryDirectory() as folder, contextlib.redirect_stdout(said),
+            unittest.mock.patch.dict(os.environ, FAULT=fault),
+            unittest.mock.patch.object(serve, "updates", lambda *_: updates),
+        ):
+            is_wrong = serve.compare(
+                str(HERE / "serve_stand_in.py"),
+                argparse.Namespace(lists=lists, lines=400, restless=serve.RESTLESS, seed=1), pathlib.Path(folder),
+            )
         return is_wrong, said.getvalue()
 
     def test_a_program_that_says_the_same(self):
@@ -422,7 +506,10 @@ class Script(unittest.TestCase):
         self.assertIn(" 0 differences", said)
 
     def test_faults_are_found(self):
-        for fault in ("starts without sessions", "begins anew to count", "forgets what waits", "takes any answer", "ends badly", "refuses"):
+        for fault in (
+            "starts without sessions", "begins anew to count", "forgets what waits", "takes any answer", "ends badly",
+            "refuses",
+        ):
             with self.subTest(fault):
                 self.assertTrue(self.said_of(fault, lists=2)[0])
 

@@ -17,7 +17,10 @@ LONGEST = 60
 
 def planner(*words, given=None):
     """The status of a run of the front end, what it wrote, and what it said."""
-    done = subprocess.run([sys.executable, "-B", ROOT / "planner", *map(str, words)], capture_output=True, text=True, input=given, timeout=LONGEST, check=False)
+    done = subprocess.run(
+        [sys.executable, "-B", ROOT / "planner", *map(str, words)], capture_output=True, text=True, input=given,
+        timeout=LONGEST, check=False,
+    )
     return done.returncode, done.stdout, done.stderr
 
 
@@ -27,5 +30,7 @@ def is_read(topology_text):
         topology, config = pathlib.Path(folder) / "topology.json", pathlib.Path(folder) / "empty.json"
         topology.write_text(topology_text, encoding="utf-8")
         config.write_text(json.dumps({"rules": []}), encoding="ascii")
-        done = subprocess.run([program.path(), "config", topology, config], capture_output=True, text=True, timeout=LONGEST, check=False)
+        done = subprocess.run(
+            [program.path(), "config", topology, config], capture_output=True, text=True, timeout=LONGEST, check=False
+        )
     return done.stdout.startswith("holds: ")

@@ -1,4 +1,5 @@
-"""Tests that the lines of docs/TOUR.md and README.md that stand behind `$` write what stands below them. PLANNER names the program."""
+"""Tests that the lines of docs/TOUR.md and README.md that stand behind `$` write what stands below them. PLANNER names
+the program."""
 import os
 import pathlib
 import re
@@ -32,15 +33,22 @@ class Tour(unittest.TestCase):
             lines = list(commands(text))
             self.assertGreaterEqual(len(lines), 9)
             for line, wanted in lines:
-                done = subprocess.run(["sh", "-c", line], cwd=folder, capture_output=True, text=True, timeout=LONGEST, check=False, env={**os.environ, "PLANNER": program.path()})
+                done = subprocess.run(
+                    ["sh", "-c", line], cwd=folder, capture_output=True, text=True, timeout=LONGEST, check=False,
+                    env={**os.environ, "PLANNER": program.path()},
+                )
                 if line.startswith("cat") and "replies-s1" in line:       # its one long line is broken in the document
                     continue
-                if line.split()[1] in getattr(words, "NEW", ()) and done.returncode == 2:       # a program that is older than the command
+                # a program that is older than the command
+                if line.split()[1] in getattr(words, "NEW", ()) and done.returncode == 2:
                     continue
                 self.assertEqual(wanted, done.stdout, line)
 
     def test_the_documents_that_are_linked_are_there(self):
-        for path in (ROOT / "README.md", *sorted((ROOT / "docs").glob("*.md")), ROOT / "CONTRIBUTING.md", ROOT / "SECURITY.md", ROOT / "planner_tools" / "page" / "README.md"):
+        for path in (
+            ROOT / "README.md", *sorted((ROOT / "docs").glob("*.md")), ROOT / "CONTRIBUTING.md", ROOT / "SECURITY.md",
+            ROOT / "planner_tools" / "page" / "README.md",
+        ):
             for target in re.findall(r"\]\(([^)#:]+)(?:#[^)]*)?\)", path.read_text(encoding="utf-8")):
                 self.assertTrue((path.parent / target).exists(), f"{path.name}: {target}")
 

@@ -1,4 +1,5 @@
-"""Networks that are made by chance, a walk of all their classes that uses nothing of what is tested, and runs of the front end. PLANNER names the program."""
+"""Networks that are made by chance, a walk of all their classes that uses nothing of what is tested, and runs of the
+front end. PLANNER names the program."""
 import contextlib
 import functools
 import io
@@ -19,14 +20,18 @@ from planner_tools import main, program  # noqa: E402
 EXAMPLES = ROOT / "examples"
 LONGEST = 120
 END = 1 << 32
-PREFIXES = ["0.0.0.0/0", "10.0.0.0/8", "10.0.0.0/16", "10.0.0.0/24", "10.0.1.0/24", "10.0.2.0/24", "10.0.3.0/24", "10.0.2.0/23", "10.0.4.0/22", "10.0.0.7/32", "10.1.0.0/16",
-            "192.168.0.0/16", "192.168.7.0/24", "255.255.255.0/24"]
+PREFIXES = [
+    "0.0.0.0/0", "10.0.0.0/8", "10.0.0.0/16", "10.0.0.0/24", "10.0.1.0/24", "10.0.2.0/24", "10.0.3.0/24", "10.0.2.0/23",
+    "10.0.4.0/22", "10.0.0.7/32", "10.1.0.0/16", "192.168.0.0/16", "192.168.7.0/24", "255.255.255.0/24",
+]
 
 
 def planner(*words, given=None):
     """The status of a run of the front end, what it wrote, and what it said."""
-    done = subprocess.run([sys.executable, "-B", ROOT / "planner", *map(str, words)], capture_output=True, text=True, input=given, timeout=LONGEST, check=False,
-                          env={**os.environ, "PLANNER": program.path(), "PLANNER_TOOLS_TEST": "1"})
+    done = subprocess.run(
+        [sys.executable, "-B", ROOT / "planner", *map(str, words)], capture_output=True, text=True, input=given,
+        timeout=LONGEST, check=False, env={**os.environ, "PLANNER": program.path(), "PLANNER_TOOLS_TEST": "1"},
+    )
     return done.returncode, done.stdout, done.stderr
 
 
@@ -43,7 +48,9 @@ def front(*words):
 
 def asked(*words):
     """The status and the text of the program itself."""
-    done = subprocess.run([program.path(), *map(str, words)], capture_output=True, text=True, timeout=LONGEST, check=False)
+    done = subprocess.run(
+        [program.path(), *map(str, words)], capture_output=True, text=True, timeout=LONGEST, check=False
+    )
     return done.returncode, done.stdout
 
 
@@ -69,7 +76,8 @@ class Folder:
 # ---- by chance
 
 def topology(chance, switches=6, more=3, vlans=("untagged", 10)):
-    """A network of one piece with some links beside a tree, two of them perhaps between the same switches, and a host at most switches, at some two."""
+    """A network of one piece with some links beside a tree, two of them perhaps between the same switches, and a host
+    at most switches, at some two."""
     names = [f"s{number}" if number % 3 else f"t-{number}" for number in range(1, switches + 1)]
     ports, links = dict.fromkeys(names, 0), []
 
@@ -77,11 +85,16 @@ def topology(chance, switches=6, more=3, vlans=("untagged", 10)):
         ports[name] += 1
         return f"{name}:{ports[name]}"
 
-    pairs = [(names[number], names[chance.randrange(number)]) for number in range(1, switches)] + [tuple(chance.sample(names, 2)) for _ in range(more)]
+    pairs = [(names[number], names[chance.randrange(number)]) for number in range(1, switches)] + [
+        tuple(chance.sample(names, 2)) for _ in range(more)
+    ]
     for one, other in pairs:
         links.append([port(one), port(other)])
     hosts = [port(name) for name in names if chance.random() < 0.7] + [port(chance.choice(names)) for _ in range(2)]
-    return {"switches": [{"name": name, "capacity": 200} for name in names], "links": links, "hosts": hosts, "vlans": list(vlans), "tags": []}
+    return {
+        "switches": [{"name": name, "capacity": 200} for name in names], "links": links, "hosts": hosts,
+        "vlans": list(vlans), "tags": [],
+    }
 
 
 def ports_of(net):
@@ -98,7 +111,10 @@ def wild(chance, net, count=10):
     rules = []
     for name, ports in ports_of(net).items():
         for priority in chance.sample(range(1, 400), chance.randrange(count)) if ports else []:
-            rule = {"switch": name, "priority": priority, "dst": chance.choice(PREFIXES), "out": chance.choice([*ports, "drop"])}
+            rule = {
+                "switch": name, "priority": priority, "dst": chance.choice(PREFIXES),
+                "out": chance.choice([*ports, "drop"]),
+            }
             if chance.random() < 0.2:
                 rule["in_port"] = chance.choice(ports)
             if chance.random() < 0.2:
@@ -116,7 +132,10 @@ def changed(chance, net, config, share=0.3):
         elif chance.random() < 0.6:
             rules.append({**rule, "out": chance.choice([*ports[rule["switch"]], "drop"])})
     taken = {(rule["switch"], rule["priority"]) for rule in rules}
-    return {"rules": rules + [rule for rule in wild(chance, net, 3)["rules"] if (rule["switch"], rule["priority"]) not in taken]}
+    return {
+        "rules": rules
+        + [rule for rule in wild(chance, net, 3)["rules"] if (rule["switch"], rule["priority"]) not in taken]
+    }
 
 
 def ends_of(net):
@@ -130,13 +149,18 @@ def steps_to(net, exit_switch, weights, without=()):
         for link in net["links"]:
             for one, other in (link, link[::-1]) if not {*link} & set(without) else ():
                 one, other = one.rpartition(":")[0], other.rpartition(":")[0]
-                if one in far and not {one, other} & set(without) and far[one] + weights[tuple(link)] < far.get(other, float("inf")):
+                if (
+                    one in far
+                    and not {one, other} & set(without)
+                    and far[one] + weights[tuple(link)] < far.get(other, float("inf"))
+                ):
                     far[other] = far[one] + weights[tuple(link)]
     return far
 
 
 def routed(chance, net, homes, share=0.95):
-    """A configuration of shortest paths with weights by chance, one set for each prefix, with some rules left out: `homes` has the host port of each prefix."""
+    """A configuration of shortest paths with weights by chance, one set for each prefix, with some rules left out:
+    `homes` has the host port of each prefix."""
     rules = []
     for number, (dst, host) in enumerate(homes.items()):
         weights = {tuple(link): chance.randrange(1, 5) for link in net["links"]}
@@ -144,10 +168,24 @@ def routed(chance, net, homes, share=0.95):
         far = steps_to(net, home, weights)
         for one in net["switches"]:
             name = one["name"]
-            hops = [int(end.rpartition(":")[2]) for link in net["links"] for end, other in (link, link[::-1])
-                    if end.rpartition(":")[0] == name and far.get(other.rpartition(":")[0], far[name] + 1) + weights[tuple(link)] == far[name]] if name in far else []
+            hops = (
+                [
+                    int(end.rpartition(":")[2])
+                    for link in net["links"]
+                    for end, other in (link, link[::-1])
+                    if end.rpartition(":")[0] == name
+                    and far.get(other.rpartition(":")[0], far[name] + 1) + weights[tuple(link)] == far[name]
+                ]
+                if name in far
+                else []
+            )
             if chance.random() < share and (hops or name == home):
-                rules.append({"switch": name, "priority": 100 + int(dst.rpartition("/")[2]), "dst": dst, "out": int(port) if name == home else chance.choice(hops)})
+                rules.append(
+                    {
+                        "switch": name, "priority": 100 + int(dst.rpartition("/")[2]), "dst": dst,
+                        "out": int(port) if name == home else chance.choice(hops),
+                    }
+                )
     return {"rules": rules}
 
 
@@ -176,13 +214,20 @@ def firsts(*configs):
 
 def covering(rules, switch, port, vlan, number):
     """The rule that counts: all are looked at."""
-    found = [rule for rule in rules if rule["switch"] == switch and rule.get("in_port", "any") in ("any", port) and rule.get("vlan", "any") in ("any", vlan)
-             and span(rule["dst"])[0] <= number < span(rule["dst"])[1]]
+    found = [
+        rule
+        for rule in rules
+        if rule["switch"] == switch
+        and rule.get("in_port", "any") in ("any", port)
+        and rule.get("vlan", "any") in ("any", vlan)
+        and span(rule["dst"])[0] <= number < span(rule["dst"])[1]
+    ]
     return max(found, key=lambda rule: rule["priority"], default=None)
 
 
 def walk(net, rules_of, host, vlan, number):
-    """The path of one packet under the rules of each switch: its stops, how it ends and where, and the rules that it met."""
+    """The path of one packet under the rules of each switch: its stops, how it ends and where, and the rules that it
+    met."""
     ends, place, stops, rules = ends_of(net), host, [], []
     while True:
         switch, _, port = place.rpartition(":")
@@ -204,7 +249,12 @@ def all_walks(net, config, starts):
     rules_of = {}
     for rule in config["rules"]:
         rules_of.setdefault(rule["switch"], []).append(rule)
-    return {(host, vlan, number): walk(net, rules_of, host, vlan, number) for host in net["hosts"] for vlan in net["vlans"] for number in starts}
+    return {
+        (host, vlan, number): walk(net, rules_of, host, vlan, number)
+        for host in net["hosts"]
+        for vlan in net["vlans"]
+        for number in starts
+    }
 
 
 def some(number, **more):

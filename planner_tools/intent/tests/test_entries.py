@@ -22,7 +22,9 @@ class Entries(unittest.TestCase):
                 found, table = json.loads(text), {key(rule): rule["out"] for rule in old["rules"]}
                 for one in found["changes"]:
                     self.assertEqual(one["do"] != "insert", key(one["rule"]) in table)
-                    self.assertEqual(table.get(key(one["rule"])), one["before"]["out"] if one["before"] is not None else None)
+                    self.assertEqual(
+                        table.get(key(one["rule"])), one["before"]["out"] if one["before"] is not None else None
+                    )
                     if one["do"] == "delete":
                         del table[key(one["rule"])]
                     else:
@@ -30,14 +32,25 @@ class Entries(unittest.TestCase):
                         table[key(one["rule"])] = one["rule"]["out"]
                 self.assertEqual(table, {key(rule): rule["out"] for rule in new["rules"]})
                 self.assertEqual(sum(found["counts"].values()), len(found["changes"]))
-                self.assertEqual(found["same"] + found["counts"]["insert"] + found["counts"]["replace"], len(new["rules"]))
+                self.assertEqual(
+                    found["same"] + found["counts"]["insert"] + found["counts"]["replace"], len(new["rules"])
+                )
 
     def test_the_square_in_words(self):
         square = EXAMPLES / "square"
         status, text, said = planner("show", square, "old.json", "new.json")
         self.assertEqual((status, said), (0, ""))
-        self.assertEqual(text.splitlines(), [f"{square}/old.json to {square}/new.json: 2 entries differ at 2 switches: 0 new, 2 changed, 0 deleted; 2 as before", "",
-                                             "s1: 1 entry", "  10.0.0.0/24 to s4 (port 4), was s2 (port 2)", "", "s3: 1 entry", "  10.0.0.0/24 to s1 (port 3), was s4 (port 2)"])
+        self.assertEqual(
+            text.splitlines(),
+            [
+                (
+                    f"{square}/old.json to {square}/new.json: 2 entries differ at 2 switches: 0 new, 2 changed, 0"
+                    " deleted; 2 as before"
+                ),
+                "", "s1: 1 entry", "  10.0.0.0/24 to s4 (port 4), was s2 (port 2)", "", "s3: 1 entry",
+                "  10.0.0.0/24 to s1 (port 3), was s4 (port 2)",
+            ],
+        )
 
     def test_three_configurations_are_refused(self):
         square = EXAMPLES / "square"

@@ -1,4 +1,5 @@
-"""Tests of `planner links`: what uses each link and switch beside a walk of all classes, and its words. PLANNER names the program."""
+"""Tests of `planner links`: what uses each link and switch beside a walk of all classes, and its words. PLANNER names
+the program."""
 import json
 import unittest
 
@@ -42,7 +43,9 @@ class Loads(unittest.TestCase):
         self.assertEqual(found["classes"], len(net["hosts"]) * len(net["vlans"]) * len(starts))
         self.assertEqual([one["link"] for one in found["links"]], net["links"])
         for link in found["links"]:
-            self.assertEqual([[one["from"], one["to"]] for one in link["directions"]], [link["link"], link["link"][::-1]])
+            self.assertEqual(
+                [[one["from"], one["to"]] for one in link["directions"]], [link["link"], link["link"][::-1]]
+            )
             for one in link["directions"]:
                 self.alike(one, links.get(one["from"], []), starts)
         self.assertEqual([one["switch"] for one in found["switches"]], [one["name"] for one in net["switches"]])
@@ -74,29 +77,46 @@ class Words(unittest.TestCase):
     def test_the_square(self):
         status, text, said = planner("links", EXAMPLES / "square")
         self.assertEqual((status, said), (0, ""))
-        self.assertEqual(text.splitlines(), [
-            "12 classes of packets", "", "links", "  s1:2 to s2:1: 1 class, 10.0.0.0/24", "  s2:2 to s3:1: 2 classes, 10.0.0.0/24", "  s3:2 to s4:1: 3 classes, 10.0.0.0/24",
-            "  s1:3 - s3:3: empty", "  s1:4 - s4:2: empty", "", "switches",
-            "  s1: 1 class, 10.0.0.0/24", "  s2: 2 classes, 10.0.0.0/24", "  s3: 3 classes, 10.0.0.0/24", "  s4: 3 classes, 10.0.0.0/24"])
+        self.assertEqual(
+            text.splitlines(),
+            [
+                "12 classes of packets", "", "links", "  s1:2 to s2:1: 1 class, 10.0.0.0/24",
+                "  s2:2 to s3:1: 2 classes, 10.0.0.0/24", "  s3:2 to s4:1: 3 classes, 10.0.0.0/24",
+                "  s1:3 - s3:3: empty", "  s1:4 - s4:2: empty", "", "switches", "  s1: 1 class, 10.0.0.0/24",
+                "  s2: 2 classes, 10.0.0.0/24", "  s3: 3 classes, 10.0.0.0/24", "  s4: 3 classes, 10.0.0.0/24",
+            ],
+        )
 
     def test_several_are_asked_for(self):
         square = EXAMPLES / "square"
-        self.assertEqual(planner("links", square, "--empty", "s1-s3", "--empty", "s4:2"), (0, "empty: s1:3 - s3:3\nempty: s1:4 - s4:2\n", ""))
-        self.assertEqual(planner("links", "--empty", "s4-s1", square, "new.json"), (1, "used: s1:4 - s4:2\n  s1:4 to s4:2: 3 classes, 10.0.0.0/24\n", ""))
+        self.assertEqual(
+            planner("links", square, "--empty", "s1-s3", "--empty", "s4:2"),
+            (0, "empty: s1:3 - s3:3\nempty: s1:4 - s4:2\n", ""),
+        )
+        self.assertEqual(
+            planner("links", "--empty", "s4-s1", square, "new.json"),
+            (1, "used: s1:4 - s4:2\n  s1:4 to s4:2: 3 classes, 10.0.0.0/24\n", ""),
+        )
         status, text, _ = planner("links", square, "--empty", "s1:3", "--empty", "s2", "--json")
         self.assertEqual((status, [one["empty"] for one in json.loads(text)["answer"]]), (1, [True, False]))
 
     def test_what_is_refused(self):
         square = EXAMPLES / "square"
-        for words, status, said in ((["--empty", "s1-s5"], 2, "the network has neither a link nor a switch s1-s5"), (["--empty", "s1:9"], 2, "s1:9"), (["new.json", "old.json"], 2, "there are more")):
+        for words, status, said in (
+            (["--empty", "s1-s5"], 2, "the network has neither a link nor a switch s1-s5"),
+            (["--empty", "s1:9"], 2, "s1:9"), (["new.json", "old.json"], 2, "there are more"),
+        ):
             found = planner("links", square, *words)
             self.assertEqual(found[:2], (status, ""), found)
             self.assertIn(said, found[2])
 
     def test_switches_with_dashes_in_their_names(self):
         """`a-b-c` may be a link of a-b and c, or of a and b-c."""
-        net = {"switches": [{"name": name, "capacity": 9} for name in ("a", "b-c", "a-b", "c")], "links": [["a:1", "b-c:1"], ["a-b:1", "c:1"], ["a:2", "c:2"]], "hosts": [],
-               "vlans": ["untagged"], "tags": []}
+        net = {
+            "switches": [{"name": name, "capacity": 9} for name in ("a", "b-c", "a-b", "c")],
+            "links": [["a:1", "b-c:1"], ["a-b:1", "c:1"], ["a:2", "c:2"]], "hosts": [], "vlans": ["untagged"],
+            "tags": [],
+        }
         folder = Folder(self, topology=net, old={"rules": []})
         self.assertEqual(front("links", folder.path, "--empty", "a-c")[:2], (0, "empty: a:2 - c:2\n"))
         status, text, said = front("links", folder.path, "--empty", "a-b-c")

@@ -1,4 +1,5 @@
-"""Tests of `planner policy`: what it demands beside a walk of all classes, and that the program accepts it over both configurations. PLANNER names the program."""
+"""Tests of `planner policy`: what it demands beside a walk of all classes, and that the program accepts it over both
+configurations. PLANNER names the program."""
 import json
 import random
 import unittest
@@ -11,7 +12,11 @@ PREFIXES = ["10.0.0.0/24", "10.0.1.0/24", "10.0.2.0/24", "10.0.3.0/24", "10.0.4.
 
 def covers(demand, host, vlan, number):
     first, behind = span(demand["dst"])
-    return demand.get("from", "any") in ("any", host) and demand.get("vlan", "any") in ("any", vlan) and first <= number < behind
+    return (
+        demand.get("from", "any") in ("any", host)
+        and demand.get("vlan", "any") in ("any", vlan)
+        and first <= number < behind
+    )
 
 
 def is_in_order(chain, visited):
@@ -26,27 +31,40 @@ class Made(unittest.TestCase):
         chance, net = some(seed, switches=4 + seed % 5, vlans=("untagged", 10, 20)[:1 + seed % 3])
         homes = homes_of(chance, net, PREFIXES[:3 + seed % 5])
         old = self.good(chance, net, homes)
-        new = self.good(chance, net, {dst: chance.choice(net["hosts"]) if chance.random() < 0.2 else host for dst, host in homes.items()})
+        new = self.good(
+            chance, net,
+            {dst: chance.choice(net["hosts"]) if chance.random() < 0.2 else host for dst, host in homes.items()},
+        )
         through = chance.sample([one["name"] for one in net["switches"]], seed % 4)
         return net, old, new, through
 
     @staticmethod
     def good(chance, net, homes):
-        """A configuration of shortest paths under which no packet comes to a switch twice, with a rule for one VLAN and one for one port."""
+        """A configuration of shortest paths under which no packet comes to a switch twice, with a rule for one VLAN and
+        one for one port."""
         rules = routed(chance, net, homes, 1)["rules"]
         for number, host in enumerate(chance.sample(net["hosts"], 2)):
             switch, _, port = host.rpartition(":")
-            rules.append({"switch": switch, "priority": 900 + number, "dst": chance.choice(PREFIXES), "out": "drop", **({"in_port": int(port)} if number else {"vlan": net["vlans"][-1]})})
+            rules.append(
+                {
+                    "switch": switch, "priority": 900 + number, "dst": chance.choice(PREFIXES), "out": "drop",
+                    **({"in_port": int(port)} if number else {"vlan": net["vlans"][-1]}),
+                }
+            )
         return {"rules": rules}
 
     def made(self, net, old, new, through, *more):
         folder = Folder(self, topology=net, old=old, new=new)
-        status, text, said = front("policy", folder.path, *(word for name in through for word in ("--through", name)), *more)
+        status, text, said = front(
+            "policy", folder.path, *(word for name in through for word in ("--through", name)), *more
+        )
         self.assertEqual(status, 0, said)
         policy = json.loads(text)
         folder.write("policy", policy)
         for word in ("old", "new"):
-            self.assertEqual(asked("config", folder / "topology.json", folder / f"{word}.json", folder / "policy.json")[0], 0)
+            self.assertEqual(
+                asked("config", folder / "topology.json", folder / f"{word}.json", folder / "policy.json")[0], 0
+            )
         return policy["demands"], said
 
     def test_what_arrives_under_both_must_arrive_and_nothing_else(self):
@@ -70,7 +88,11 @@ class Made(unittest.TestCase):
     def waypoints(self, mine, name, before, after, through):
         """What both paths of a class meet is demanded of it, each switch, and in its order where both agree."""
         visited = [[stop.rpartition(":")[0] for stop in walk[0]] for walk in (before, after)]
-        met = [one for one in visited[0] if one in visited[1] and one in through] if before[1] == after[1] == "left" else []
+        met = (
+            [one for one in visited[0] if one in visited[1] and one in through]
+            if before[1] == after[1] == "left"
+            else []
+        )
         self.assertEqual({switch for one in mine for switch in one.get("through", [])}, set(met), name)
         for one in mine:
             self.assertTrue(all(is_in_order(one.get("through", []), way) for way in visited))
@@ -88,7 +110,11 @@ class Made(unittest.TestCase):
                     if before[name][1] == after[name][1] == "left" and before[name][:3] != after[name][:3]:
                         self.assertTrue(any(covers(one, *name) for one in demands), name)
                 for one in demands:
-                    self.assertTrue(any(covers(one, *name) and before[name][:3] != after[name][:3] for name in before) or span(one["dst"])[0] not in starts, one)
+                    self.assertTrue(
+                        any(covers(one, *name) and before[name][:3] != after[name][:3] for name in before)
+                        or span(one["dst"])[0] not in starts,
+                        one,
+                    )
 
     def test_what_stays_free_is_listed(self):
         for seed in range(60, 64):
@@ -97,7 +123,10 @@ class Made(unittest.TestCase):
                 demands, said = self.made(net, old, new, through)
                 starts = firsts(old, new)
                 before, after = all_walks(net, old, starts), all_walks(net, new, starts)
-                for words, ends in (("arrive under the old rules alone", (True, False)), ("arrive under the new rules alone", (False, True)), ("arrive under neither", (False, False))):
+                for words, ends in (
+                    ("arrive under the old rules alone", (True, False)),
+                    ("arrive under the new rules alone", (False, True)), ("arrive under neither", (False, False)),
+                ):
                     count = sum((before[name][1] == "left", after[name][1] == "left") == ends for name in before)
                     self.assertIn(f"{count} class{'es' if count != 1 else ''} {words}:" if count else "", said)
                     self.assertEqual(words in said, count > 0)
@@ -106,11 +135,26 @@ class Made(unittest.TestCase):
 class Words(unittest.TestCase):
     def test_the_square(self):
         status, text, said = planner("policy", EXAMPLES / "square", "--through", "s4")
-        self.assertEqual((status, text.splitlines()[2:5]), (0, [
-            '    {"from": "s1:1", "dst": "10.0.0.0/24", "through": ["s4"], "deliver": true},', '    {"from": "s2:3", "dst": "10.0.0.0/24", "through": ["s4"], "deliver": true},',
-            '    {"from": "s3:4", "dst": "10.0.0.0/24", "through": ["s4"], "deliver": true}']))
-        self.assertEqual(said.splitlines(), ["planner: note: 3 demands: 3 of 12 classes of packets must arrive; the others stay free", "    9 classes arrive under neither:",
-                                             "      from s1:1, s2:3, s3:4: 0.0.0.0 to 9.255.255.255, 10.0.1.0 to 255.255.255.255", "      from s4:3: 0.0.0.0/0"])
+        self.assertEqual(
+            (status, text.splitlines()[2:5]),
+            (
+                0,
+                [
+                    '    {"from": "s1:1", "dst": "10.0.0.0/24", "through": ["s4"], "deliver": true},',
+                    '    {"from": "s2:3", "dst": "10.0.0.0/24", "through": ["s4"], "deliver": true},',
+                    '    {"from": "s3:4", "dst": "10.0.0.0/24", "through": ["s4"], "deliver": true}',
+                ],
+            ),
+        )
+        self.assertEqual(
+            said.splitlines(),
+            [
+                "planner: note: 3 demands: 3 of 12 classes of packets must arrive; the others stay free",
+                "    9 classes arrive under neither:",
+                "      from s1:1, s2:3, s3:4: 0.0.0.0 to 9.255.255.255, 10.0.1.0 to 255.255.255.255",
+                "      from s4:3: 0.0.0.0/0",
+            ],
+        )
 
     def test_orders_that_differ(self):
         """Two waypoints that the paths meet in different orders are demanded one by one."""
@@ -123,24 +167,42 @@ class Words(unittest.TestCase):
         self.assertIn("warning: no class that arrives under both meets p1 under both: nothing is demanded of it", said)
 
     def test_all_hosts_and_vlans_are_one_demand(self):
-        net = {"switches": [{"name": name, "capacity": 9} for name in ("a", "b")], "links": [["a:1", "b:1"]], "hosts": ["a:2", "a:3", "b:2", "b:3"], "vlans": ["untagged", 10], "tags": []}
-        ways = [{"switch": "a", "in_port": 1, "priority": 5, "dst": "10.0.0.0/23", "out": 2}, {"switch": "a", "priority": 4, "dst": "10.0.0.0/23", "out": 1},
-                {"switch": "b", "in_port": 2, "priority": 5, "dst": "10.0.0.0/23", "out": 3}, {"switch": "b", "priority": 4, "dst": "10.0.0.0/23", "out": 2}]
+        net = {
+            "switches": [{"name": name, "capacity": 9} for name in ("a", "b")], "links": [["a:1", "b:1"]],
+            "hosts": ["a:2", "a:3", "b:2", "b:3"], "vlans": ["untagged", 10], "tags": [],
+        }
+        ways = [
+            {"switch": "a", "in_port": 1, "priority": 5, "dst": "10.0.0.0/23", "out": 2},
+            {"switch": "a", "priority": 4, "dst": "10.0.0.0/23", "out": 1},
+            {"switch": "b", "in_port": 2, "priority": 5, "dst": "10.0.0.0/23", "out": 3},
+            {"switch": "b", "priority": 4, "dst": "10.0.0.0/23", "out": 2},
+        ]
         folder = Folder(self, topology=net, old={"rules": ways}, new={"rules": ways})
         status, text, _ = front("policy", folder.path)
         self.assertEqual((status, json.loads(text)["demands"]), (0, [{"dst": "10.0.0.0/23", "deliver": True}]))
 
     def test_what_is_refused(self):
         square = EXAMPLES / "square"
-        for words, status, said in (([square, "--through", "s9"], 2, "the network has no such switch"), ([square / "topology.json"], 2, "the words are TOPO OLD NEW")):
+        for words, status, said in (
+            ([square, "--through", "s9"], 2, "the network has no such switch"),
+            ([square / "topology.json"], 2, "the words are TOPO OLD NEW"),
+        ):
             found = planner("policy", *words)
             self.assertEqual(found[:2], (status, ""), found)
             self.assertIn(said, found[2])
 
     def test_a_configuration_with_a_loop_is_refused(self):
-        folder = Folder(self, **{name: json.loads((EXAMPLES / "square" / f"{name}.json").read_text()) for name in ("topology", "old")},
-                        new={"rules": [{"switch": "s1", "priority": 1, "dst": "10.0.0.0/24", "out": 2}, {"switch": "s2", "priority": 1, "dst": "10.0.0.0/24", "out": 2},
-                                       {"switch": "s3", "priority": 1, "dst": "10.0.0.0/24", "out": 3}]})
+        folder = Folder(
+            self,
+            **{name: json.loads((EXAMPLES / "square" / f"{name}.json").read_text()) for name in ("topology", "old")},
+            new={
+                "rules": [
+                    {"switch": "s1", "priority": 1, "dst": "10.0.0.0/24", "out": 2},
+                    {"switch": "s2", "priority": 1, "dst": "10.0.0.0/24", "out": 2},
+                    {"switch": "s3", "priority": 1, "dst": "10.0.0.0/24", "out": 3},
+                ]
+            },
+        )
         status, text, said = front("policy", folder.path)
         self.assertEqual((status, text), (1, ""))
         self.assertIn("new.json", said)
@@ -148,13 +210,20 @@ class Words(unittest.TestCase):
     def test_too_many_demands(self):
         """Of 24 sites with a prefix each, apart from one another, each pair takes a demand: more than a policy has."""
         names = [f"s{number}" for number in range(24)]
-        net = {"switches": [{"name": "c", "capacity": 99}, *({"name": name, "capacity": 99} for name in names)], "links": [[f"c:{at + 1}", f"{name}:2"] for at, name in enumerate(names)],
-               "hosts": [f"{name}:1" for name in names], "vlans": ["untagged"], "tags": []}
+        net = {
+            "switches": [{"name": "c", "capacity": 99}, *({"name": name, "capacity": 99} for name in names)],
+            "links": [[f"c:{at + 1}", f"{name}:2"] for at, name in enumerate(names)],
+            "hosts": [f"{name}:1" for name in names], "vlans": ["untagged"], "tags": [],
+        }
         rules = []
         for at, name in enumerate(names):
             dst = f"10.{2 * at}.0.0/16"
-            rules += [{"switch": "c", "priority": 5, "dst": dst, "out": at + 1}] + [{"switch": one, "priority": 5, "dst": dst, "out": 1 if one == name else 2} for one in names]
-        folder = Folder(self, topology=net, old={"rules": rules}, new={"rules": random.Random(1).sample(rules, len(rules))})
+            rules += [{"switch": "c", "priority": 5, "dst": dst, "out": at + 1}] + [
+                {"switch": one, "priority": 5, "dst": dst, "out": 1 if one == name else 2} for one in names
+            ]
+        folder = Folder(
+            self, topology=net, old={"rules": rules}, new={"rules": random.Random(1).sample(rules, len(rules))}
+        )
         status, text, said = front("policy", folder.path)
         self.assertEqual((status, text), (1, ""))
         self.assertIn("it takes 552 demands, and a policy has at most 512", said)

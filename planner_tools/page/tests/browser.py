@@ -23,7 +23,8 @@ class Fault(Exception):
 
 
 class Browser:
-    """One browser with one page. What the page writes to its console, what fails in it and what it asks of the network is kept."""
+    """One browser with one page. What the page writes to its console, what fails in it and what it asks of the network
+    is kept."""
 
     def __init__(self, path):
         self.folder = tempfile.mkdtemp(prefix="view-tests-")
@@ -39,10 +40,16 @@ class Browser:
             os.dup2(other, 4)
 
         self.process = subprocess.Popen(
-            [path, "--headless=new", "--no-sandbox", "--disable-gpu", "--disable-dev-shm-usage", "--remote-debugging-pipe", "--no-first-run",
-             "--disable-background-networking", "--disable-renderer-backgrounding", "--disable-backgrounding-occluded-windows", "--no-zygote", "--in-process-gpu",
-             "--disable-extensions", f"--user-data-dir={self.folder}", "--window-size=1280,800", "about:blank"],
-            preexec_fn=connect, pass_fds=(3, 4), start_new_session=True, stdin=subprocess.DEVNULL, stdout=subprocess.DEVNULL, stderr=subprocess.DEVNULL)
+            [
+                path, "--headless=new", "--no-sandbox", "--disable-gpu", "--disable-dev-shm-usage",
+                "--remote-debugging-pipe", "--no-first-run", "--disable-background-networking",
+                "--disable-renderer-backgrounding", "--disable-backgrounding-occluded-windows", "--no-zygote",
+                "--in-process-gpu", "--disable-extensions", f"--user-data-dir={self.folder}", "--window-size=1280,800",
+                "about:blank",
+            ],
+            preexec_fn=connect, pass_fds=(3, 4), start_new_session=True, stdin=subprocess.DEVNULL,
+            stdout=subprocess.DEVNULL, stderr=subprocess.DEVNULL,
+        )
         os.close(there)
         os.close(back)
         try:
@@ -86,7 +93,9 @@ class Browser:
     def keep(self, message):
         what, given = message.get("method"), message.get("params", {})
         if what == "Runtime.exceptionThrown":
-            self.console.append(given["exceptionDetails"].get("exception", {}).get("description", given["exceptionDetails"]["text"]))
+            self.console.append(
+                given["exceptionDetails"].get("exception", {}).get("description", given["exceptionDetails"]["text"])
+            )
         elif what == "Runtime.consoleAPICalled":
             self.console.append(" ".join(str(it.get("value")) for it in given["args"]))
         elif what == "Log.entryAdded":
@@ -115,7 +124,8 @@ class Browser:
                 return answer["result"]
 
     def open(self, path, words=""):
-        """Opens a file of the disk, and waits until its page stands. Pages are opened by way of an empty one, so that words alone open them anew."""
+        """Opens a file of the disk, and waits until its page stands. Pages are opened by way of an empty one, so that
+        words alone open them anew."""
         self.go("about:blank")
         self.console, self.requests = [], []
         self.go(f"file://{path}{words}")
@@ -130,5 +140,7 @@ class Browser:
         """Returns the value of an expression in the page."""
         answer = self.ask("Runtime.evaluate", expression=script, returnByValue=True)
         if "exceptionDetails" in answer:
-            raise Fault(answer["exceptionDetails"].get("exception", {}).get("description", answer["exceptionDetails"]["text"]))
+            raise Fault(
+                answer["exceptionDetails"].get("exception", {}).get("description", answer["exceptionDetails"]["text"])
+            )
         return answer["result"].get("value")

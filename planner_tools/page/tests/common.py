@@ -51,7 +51,9 @@ class Pages(unittest.TestCase):
 
     def page(self, *words, status=0):
         """Writes a page, and returns its path and what the script wrote to its error stream."""
-        done = subprocess.run([sys.executable, "-B", FRONT_END, "page", *words], capture_output=True, timeout=SECONDS, check=False)
+        done = subprocess.run(
+            [sys.executable, "-B", FRONT_END, "page", *words], capture_output=True, timeout=SECONDS, check=False
+        )
         self.assertEqual(status, done.returncode, done.stderr.decode())
         path = os.path.join(self.folder, "update.html")
         with open(path, "wb") as file:
@@ -87,7 +89,10 @@ class PagesInBrowser(Pages):
         """No page says anything on its console, and none asks for anything but itself."""
         if sys.exc_info()[0] is None:
             self.assertEqual([], self.tab.console)
-            self.assertEqual([], [url for url in self.tab.requests if not url.endswith("/update.html") and "/update.html#" not in url])
+            self.assertEqual(
+                [],
+                [url for url in self.tab.requests if not url.endswith("/update.html") and "/update.html#" not in url],
+            )
 
     def text(self, selector):
         """Returns the texts of the elements that a selector names."""
@@ -99,7 +104,16 @@ class PagesInBrowser(Pages):
 
     def go(self, position, **chosen):
         """Moves the slider, and chooses a class or a switch."""
-        self.tab.value("(() => { const slider = document.getElementById('slider'); slider.value = %d; slider.dispatchEvent(new Event('input')); })()" % position)
+        self.tab.value(
+            "(() => { const slider = document.getElementById('slider'); slider.value = %d; slider.dispatchEvent(new"
+            " Event('input')); })()" % position
+        )
         if "packets" in chosen:
-            number = self.tab.value("[...document.querySelectorAll('#class option')].find((it) => it.textContent === %r).value" % chosen["packets"])
-            self.tab.value("(() => { const list = document.getElementById('class'); list.value = %r; list.dispatchEvent(new Event('change')); })()" % number)
+            number = self.tab.value(
+                "[...document.querySelectorAll('#class option')].find((it) => it.textContent === %r).value"
+                % chosen["packets"]
+            )
+            self.tab.value(
+                "(() => { const list = document.getElementById('class'); list.value = %r; list.dispatchEvent(new"
+                " Event('change')); })()" % number
+            )

@@ -22,12 +22,20 @@ def neighbour(topology, switch, port):
 
 def change_words(what, rule, topology):
     """Says a change as the page does, from the rule in the plan's file."""
-    packets = ", ".join([rule["dst"]] + ([f"from port {rule['in_port']}"] if "in_port" in rule else [])
-                        + ([rule["vlan"] if rule["vlan"] == "untagged" else f"VLAN {rule['vlan']}"] if "vlan" in rule else []))
-    action = "drop" if rule["out"] == "drop" else f"port {rule['out']} to {neighbour(topology, rule['switch'], rule['out'])}"
+    packets = ", ".join(
+        [rule["dst"]]
+        + ([f"from port {rule['in_port']}"] if "in_port" in rule else [])
+        + ([rule["vlan"] if rule["vlan"] == "untagged" else f"VLAN {rule['vlan']}"] if "vlan" in rule else [])
+    )
+    action = (
+        "drop" if rule["out"] == "drop" else f"port {rule['out']} to {neighbour(topology, rule['switch'], rule['out'])}"
+    )
     if "set" in rule:
         action = f"set VLAN {rule['set']}, {action}"
-    return f"{rule['switch']} {what} {packets} -> {'strip the tag, ' if 'strip' in rule else ''}{action} (priority {rule['priority']})"
+    return (
+        f"{rule['switch']} {what} {packets} -> {'strip the tag, ' if 'strip' in rule else ''}{action} (priority"
+        f" {rule['priority']})"
+    )
 
 
 class Examples(PagesInBrowser):
@@ -38,13 +46,17 @@ class Examples(PagesInBrowser):
             names = [one["name"] for one in topology["switches"]]
             changes = sorted(changes, key=lambda change: names.index(change[1]["switch"]))
             self.assertEqual(len({rule["switch"] for _, rule in changes}), len(self.text("#changes details")))
-            shown = self.tab.value("[...document.querySelectorAll('#changes li')].map((it) => `${it.closest('details').dataset.switch} ${it.textContent}`)")
+            shown = self.tab.value(
+                "[...document.querySelectorAll('#changes li')].map((it) => `${it.closest('details').dataset.switch}"
+                " ${it.textContent}`)"
+            )
         else:
             shown = self.text("#changes li")
         self.assertEqual([change_words(what, rule, topology) for what, rule in changes], shown)
 
     def check_rounds(self, files):
-        """In each round the page shows its changes, finds no walk that the policy forbids for any class, and shows numbers that fall along each step."""
+        """In each round the page shows its changes, finds no walk that the policy forbids for any class, and shows
+        numbers that fall along each step."""
         self.open(*files)
         topology, plan = networks.read(files[0]), networks.read(files[4])
         self.assertIn(self.ask("check", *files)[1].strip(), self.seen("#verdict"))
@@ -53,7 +65,10 @@ class Examples(PagesInBrowser):
             self.assertEqual(f"round {number} of {len(plan['rounds'])}", self.seen("#position"))
             self.check_changes([(what, plan["rules"][rule]) for what, rule in changes], topology)
             changing = {plan["rules"][rule]["switch"] for _, rule in changes}
-            marked = self.tab.value("[...document.querySelectorAll('#nodes .switch')].filter((it) => it.textContent.includes('changes')).map((it) => it.dataset.switch)")
+            marked = self.tab.value(
+                "[...document.querySelectorAll('#nodes .switch')].filter((it) =>"
+                " it.textContent.includes('changes')).map((it) => it.dataset.switch)"
+            )
             self.assertEqual(changing, set(marked))
             wrong = self.tab.value("""view.order.filter((number) => { view.choose({ class: number });
                 return view.shown.bad || document.querySelector('#steps .wrong') || !document.querySelector('#steps [data-what]'); })""")
@@ -91,33 +106,62 @@ class Examples(PagesInBrowser):
 
     def test_the_network_and_its_numbers_are_drawn(self):
         self.open(*paths("square"), hash="#round=2&class=4")
-        self.assertEqual(["s1", "s2", "s3", "s4"], self.tab.value("[...document.querySelectorAll('#nodes .switch')].map((it) => it.dataset.switch)"))
+        self.assertEqual(
+            ["s1", "s2", "s3", "s4"],
+            self.tab.value("[...document.querySelectorAll('#nodes .switch')].map((it) => it.dataset.switch)"),
+        )
         self.assertEqual(["1", "3", "2", "0"], self.text("#nodes .number"))
-        self.assertEqual({"s1:1", "s1:2", "s1:3", "s1:4", "s2:1", "s2:2", "s2:3", "s3:1", "s3:2", "s3:3", "s3:4", "s4:1", "s4:2", "s4:3"},
-                         set(self.tab.value("[...document.querySelectorAll('#ports .port')].map((it) => it.dataset.port)")))
-        self.assertEqual(["s1:1", "s2:3", "s3:4", "s4:3"], self.tab.value("[...document.querySelectorAll('.host')].map((it) => it.dataset.host)"))
-        self.assertEqual(["s2 (3) → s3 (2)", "s3 (2) → s4 (0) before its change", "s3 (2) → s1 (1) after its change", "s4 (0) leaves at port 3", "s1 (1) → s4 (0)"],
-                         self.text("#steps li"))
+        self.assertEqual(
+            {
+                "s1:1", "s1:2", "s1:3", "s1:4", "s2:1", "s2:2", "s2:3", "s3:1", "s3:2", "s3:3", "s3:4", "s4:1", "s4:2",
+                "s4:3",
+            },
+            set(self.tab.value("[...document.querySelectorAll('#ports .port')].map((it) => it.dataset.port)")),
+        )
+        self.assertEqual(
+            ["s1:1", "s2:3", "s3:4", "s4:3"],
+            self.tab.value("[...document.querySelectorAll('.host')].map((it) => it.dataset.host)"),
+        )
+        self.assertEqual(
+            [
+                "s2 (3) → s3 (2)", "s3 (2) → s4 (0) before its change", "s3 (2) → s1 (1) after its change",
+                "s4 (0) leaves at port 3", "s1 (1) → s4 (0)",
+            ],
+            self.text("#steps li"),
+        )
         self.assertEqual(["s2 s3 s4, leaves at s4:3"], self.text("#oldpath"))
         self.assertEqual(["s2 s3 s1 s4, leaves at s4:3"], self.text("#newpath"))
-        self.assertEqual(["priority", "packets", "before round 2", "after round 2", "100", "10.0.0.0/24", "port 2 to s4", "port 3 to s1"], self.text("#table th, #table td"))
+        self.assertEqual(
+            [
+                "priority", "packets", "before round 2", "after round 2", "100", "10.0.0.0/24", "port 2 to s4",
+                "port 3 to s1",
+            ],
+            self.text("#table th, #table td"),
+        )
 
     def test_keys_move_the_slider_and_a_click_chooses_a_switch(self):
         self.open(*paths("square"))
         self.assertEqual("round 1 of 2", self.seen("#position"))
         press = "document.dispatchEvent(new KeyboardEvent('keydown', { key: %r, bubbles: true }))"
-        for key, shown in (("ArrowRight", "round 2 of 2"), ("ArrowRight", "after the update"), ("ArrowRight", "after the update"), ("ArrowLeft", "round 2 of 2")):
+        for key, shown in (
+            ("ArrowRight", "round 2 of 2"), ("ArrowRight", "after the update"), ("ArrowRight", "after the update"),
+            ("ArrowLeft", "round 2 of 2"),
+        ):
             self.tab.value(press.replace("document.", "document.body.") % key)
             self.assertEqual(shown, self.seen("#position"))
-        self.tab.value("document.querySelector('[data-switch=s2] rect').dispatchEvent(new MouseEvent('click', { bubbles: true }))")
+        self.tab.value(
+            "document.querySelector('[data-switch=s2] rect').dispatchEvent(new MouseEvent('click', { bubbles: true }))"
+        )
         self.assertIn("Rules of s2", self.seen("#table h2"))
 
     def test_classes_with_a_demand_stand_first(self):
         self.open(*paths("square"))
         labels = self.tab.value("[...document.querySelectorAll('#class optgroup')].map((it) => it.label)")
         self.assertEqual(["with a demand", "without a demand"], labels)
-        self.assertEqual(["s1:1 untagged to 10.0.0.0/24", "s2:3 untagged to 10.0.0.0/24", "s3:4 untagged to 10.0.0.0/24"],
-                         self.text("#class optgroup:first-child option"))
+        self.assertEqual(
+            ["s1:1 untagged to 10.0.0.0/24", "s2:3 untagged to 10.0.0.0/24", "s3:4 untagged to 10.0.0.0/24"],
+            self.text("#class optgroup:first-child option"),
+        )
 
     def test_tags_and_waypoints_of_the_detour_network(self):
         self.open(*paths("detour"))
@@ -138,7 +182,9 @@ class Examples(PagesInBrowser):
         for name in ("square", "detour", "leaf-spine"):
             self.open(*paths(name))
             self.assertLessEqual(self.tab.value("document.documentElement.scrollWidth"), 1280)
-            self.assertLessEqual(self.tab.value("document.querySelector('#picture').getBoundingClientRect().bottom"), 800)
+            self.assertLessEqual(
+                self.tab.value("document.querySelector('#picture').getBoundingClientRect().bottom"), 800
+            )
 
     def test_a_file_name_is_only_a_text(self):
         files = paths("square")

@@ -13,7 +13,8 @@ def paths(name, *words):
 
 
 def fat_tree(pods):
-    """Returns an update of a fat tree of `pods` pods: all traffic to 10.0.0.0/24, behind the first edge switch, goes by another core switch."""
+    """Returns an update of a fat tree of `pods` pods: all traffic to 10.0.0.0/24, behind the first edge switch, goes by
+    another core switch."""
     half = pods // 2
     links, port = [], {}
 
@@ -39,14 +40,24 @@ def fat_tree(pods):
     home = edges[0]
 
     def rules(up):
-        toward = {home: hosts[home], f"a0-{up}": ways[f"a0-{up}", home], f"c{up * half}": ways[f"c{up * half}", f"a0-{up}"]}
+        toward = {
+            home: hosts[home], f"a0-{up}": ways[f"a0-{up}", home], f"c{up * half}": ways[f"c{up * half}", f"a0-{up}"],
+        }
         for pod in range(pods):
             for down in range(half):
                 toward.setdefault(f"e{pod}-{down}", ways.get((f"e{pod}-{down}", f"a{pod}-{up}")))
             toward.setdefault(f"a{pod}-{up}", ways[f"a{pod}-{up}", f"c{up * half}"])
-        return {"rules": [{"switch": name, "priority": 100, "dst": "10.0.0.0/24", "out": int(end.rpartition(":")[2])} for name, end in toward.items()]}
+        return {
+            "rules": [
+                {"switch": name, "priority": 100, "dst": "10.0.0.0/24", "out": int(end.rpartition(":")[2])}
+                for name, end in toward.items()
+            ]
+        }
 
-    topology = {"switches": [{"name": name, "capacity": 64} for name in port], "links": links, "hosts": list(hosts.values()), "vlans": ["untagged"], "tags": [3000, 3009]}
+    topology = {
+        "switches": [{"name": name, "capacity": 64} for name in port], "links": links, "hosts": list(hosts.values()),
+        "vlans": ["untagged"], "tags": [3000, 3009],
+    }
     demands = [{"from": hosts[edge], "dst": "10.0.0.0/24", "deliver": True} for edge in edges[1:]]
     return networks.Update(topology, rules(0), rules(1), {"demands": demands})
 
@@ -66,7 +77,8 @@ class Large(PagesInBrowser):
             const box = it.getBoundingClientRect(); return [it.dataset.label, box.left, box.top, box.right, box.bottom]; })""")
 
     def test_networks_open_whole_with_names_that_can_be_read(self):
-        """In a small network names stand in the boxes; in a large one beside them, where none covers another one, and that of the chosen switch always."""
+        """In a small network names stand in the boxes; in a large one beside them, where none covers another one, and
+        that of the chosen switch always."""
         for count in (12, 20, 128):
             with self.subTest(count):
                 self.of_update(networks.ring(count), hash="#switch=r7")
@@ -74,7 +86,10 @@ class Large(PagesInBrowser):
                 self.has_readable_names(count)
 
     def is_whole(self, count):
-        box = self.tab.value("(() => { const box = document.getElementById('picture').getBoundingClientRect(); return [box.left, box.top, box.right, box.bottom]; })()")
+        box = self.tab.value(
+            "(() => { const box = document.getElementById('picture').getBoundingClientRect(); return [box.left,"
+            " box.top, box.right, box.bottom]; })()"
+        )
         places = self.places()
         self.assertEqual(count, len(places))
         for x, y in places.values():
@@ -83,7 +98,10 @@ class Large(PagesInBrowser):
 
     def has_readable_names(self, count):
         labels = self.labels()
-        high = self.tab.value("Math.min(...[...document.querySelectorAll('#nodes text.inside[font-weight=bold]')].map((it) => it.getBoundingClientRect().height).filter((it) => it > 0), 99)")
+        high = self.tab.value(
+            "Math.min(...[...document.querySelectorAll('#nodes text.inside[font-weight=bold]')].map((it) =>"
+            " it.getBoundingClientRect().height).filter((it) => it > 0), 99)"
+        )
         if not labels:
             self.assertGreaterEqual(high, 8.5)
             return
@@ -92,16 +110,25 @@ class Large(PagesInBrowser):
         for at, (name, left, top, right, low) in enumerate(labels):
             self.assertGreaterEqual(low - top, 10)
             for other, left2, top2, right2, low2 in labels[:at]:
-                self.assertFalse(left + 1 < right2 and left2 + 1 < right and top + 3 < low2 and top2 + 3 < low, (name, other))
+                self.assertFalse(
+                    left + 1 < right2 and left2 + 1 < right and top + 3 < low2 and top2 + 3 < low, (name, other)
+                )
 
     def test_a_switch_is_picked_from_the_list_and_names_come_back_where_the_picture_is_enlarged(self):
         self.of_update(networks.ring(128))
         self.assertEqual([f"r{at}" for at in range(128)], self.text("#switch option"))
         for name in ("r56", "r57", "r58"):
-            self.tab.value("(() => { const list = document.getElementById('switch'); list.value = %d; list.dispatchEvent(new Event('change')); })()" % int(name[1:]))
+            self.tab.value(
+                "(() => { const list = document.getElementById('switch'); list.value = %d; list.dispatchEvent(new"
+                " Event('change')); })()"
+                % int(name[1:])
+            )
             self.assertIn(f"Rules of {name} ", self.seen("#table h2"))
             self.assertIn(name, [label[0] for label in self.labels()])
-        self.tab.value("document.querySelector('#labels .dot[data-switch=r9]').dispatchEvent(new MouseEvent('click', { bubbles: true }))")
+        self.tab.value(
+            "document.querySelector('#labels .dot[data-switch=r9]').dispatchEvent(new MouseEvent('click', { bubbles:"
+            " true }))"
+        )
         self.assertIn("Rules of r9 ", self.seen("#table h2"))
         self.tab.value("document.getElementById('near').click()")
         self.assertEqual([], self.labels())
@@ -126,7 +153,9 @@ class Large(PagesInBrowser):
         self.open(*paths("square"), hash="#switch=s1")
         self.assertEqual("Ports 1 to hosts, 2 to s2, 3 to s3, 4 to s4", self.seen("#portlist"))
         self.assertIn("s1:3 to s3", self.text("#ports title"))
-        self.tab.value("[...document.querySelectorAll('#portlist button')].find((it) => it.textContent === 's3').click()")
+        self.tab.value(
+            "[...document.querySelectorAll('#portlist button')].find((it) => it.textContent === 's3').click()"
+        )
         self.assertIn("Rules of s3", self.seen("#table h2"))
 
     def test_all_rounds_are_listed(self):
@@ -142,12 +171,16 @@ class Large(PagesInBrowser):
 class Configurations(PagesInBrowser):
     def test_a_configuration_without_a_plan(self):
         self.open(*paths("square", "topology", "old", "policy"))
-        self.assertIn(self.ask("config", *paths("square", "topology", "old", "policy"))[1].strip(), self.seen("#verdict"))
+        self.assertIn(
+            self.ask("config", *paths("square", "topology", "old", "policy"))[1].strip(), self.seen("#verdict")
+        )
         self.assertEqual("accepted", self.tab.value("document.querySelector('header').className"))
         self.assertEqual("this configuration", self.seen("#position"))
         self.assertEqual(["s1 s2 s3 s4, leaves at s4:3"], self.text("#oldpath"))
         self.assertEqual([], self.text("#newpath"))
-        self.assertEqual(["priority", "packets", "action", "100", "10.0.0.0/24", "port 2 to s2"], self.text("#table th, #table td"))
+        self.assertEqual(
+            ["priority", "packets", "action", "100", "10.0.0.0/24", "port 2 to s2"], self.text("#table th, #table td")
+        )
         self.assertEqual("", self.seen("#rounds"))
         self.assertEqual("none", self.tab.value("getComputedStyle(document.getElementById('slider')).display"))
 
@@ -160,7 +193,13 @@ class Configurations(PagesInBrowser):
         self.open(*files)
         self.assertEqual("breaks: at s:1 untagged 10.0.0.0 Missed y", self.ask("config", *files)[1].strip())
         self.assertTrue(self.seen("#verdict").startswith("breaks: at s:1 untagged 10.0.0.0 Missed y"))
-        self.assertIn("In this configuration a packet that enters at s:1 untagged for 10.0.0.0 leaves the network without having met waypoint y", self.seen("#sentence"))
+        self.assertIn(
+            (
+                "In this configuration a packet that enters at s:1 untagged for 10.0.0.0 leaves the network without"
+                " having met waypoint y"
+            ),
+            self.seen("#sentence"),
+        )
         self.assertIn("leaves the network without having met y in its place", self.seen("#bad p"))
         self.tab.value("view.choose({ class: 0 }); view.search.finish()")
         self.assertIn("s:1 untagged to 10.0.0.0/24", self.text("#elsewhere button"))
@@ -180,12 +219,18 @@ class Configurations(PagesInBrowser):
 
 class Media(PagesInBrowser):
     def emulate(self, media, scheme):
-        self.tab.ask("Emulation.setEmulatedMedia", media=media, features=[{"name": "prefers-color-scheme", "value": scheme}])
+        self.tab.ask(
+            "Emulation.setEmulatedMedia", media=media, features=[{"name": "prefers-color-scheme", "value": scheme}]
+        )
         self.addCleanup(self.tab.ask, "Emulation.setEmulatedMedia", media="", features=[])
 
     def lightness(self, what):
         """How light the ink and the paper are, from 0 to 255."""
-        return self.tab.value("""(() => { const [r, g, b] = getComputedStyle(document.body)[%r].match(/[0-9.]+/g).map(Number); return (r * 3 + g * 6 + b) / 10; })()""" % what)
+        return self.tab.value(
+            """(() => { const [r, g, b] = getComputedStyle(document.body)[%r].match(/[0-9.]+/g).map(Number);
+            return (r * 3 + g * 6 + b) / 10; })()"""
+            % what
+        )
 
     def test_dark_where_the_reader_wants_it(self):
         self.open(*paths("square"))
@@ -194,7 +239,9 @@ class Media(PagesInBrowser):
             ink, paper = self.lightness("color"), self.lightness("backgroundColor")
             self.assertEqual(is_dark, ink > paper)
             self.assertGreater(abs(ink - paper), 150)
-            self.assertNotEqual("rgb(0, 0, 0)", self.tab.value("getComputedStyle(document.querySelector('#nodes rect')).fill"))
+            self.assertNotEqual(
+                "rgb(0, 0, 0)", self.tab.value("getComputedStyle(document.querySelector('#nodes rect')).fill")
+            )
 
     def test_paper_is_light_and_has_the_whole_lists(self):
         self.open(*paths("leaf-spine"))

@@ -37,17 +37,25 @@ def topology(count, links, hosts):
         ports[switch] += 1
         return f"n{switch}:{ports[switch]}"
 
-    return {"switches": [{"name": f"n{i}", "capacity": 8} for i in range(count)], "links": [[port(one), port(other)] for one, other in links],
-            "hosts": [port(switch) for switch in hosts], "vlans": ["untagged"], "tags": []}
+    return {
+        "switches": [{"name": f"n{i}", "capacity": 8} for i in range(count)],
+        "links": [[port(one), port(other)] for one, other in links], "hosts": [port(switch) for switch in hosts],
+        "vlans": ["untagged"], "tags": [],
+    }
 
 
 class Layouts(unittest.TestCase):
     def check(self, count, links, hosts, graphviz):
-        made = layout.layout(count, [[one, 1, other, 1] for one, other in links], [[host, 1] for host in hosts], graphviz)
+        made = layout.layout(
+            count, [[one, 1, other, 1] for one, other in links], [[host, 1] for host in hosts], graphviz
+        )
         self.assertEqual((count, len(hosts)), (len(made["switches"]), len(made["hosts"])))
         for x, y in made["switches"] + made["hosts"]:
             self.assertTrue(0 <= x <= made["width"] and 0 <= y <= made["height"], (x, y))
-        apart = min((math.dist(one, other) for at, one in enumerate(made["switches"]) for other in made["switches"][:at]), default=99)
+        apart = min(
+            (math.dist(one, other) for at, one in enumerate(made["switches"]) for other in made["switches"][:at]),
+            default=99,
+        )
         self.assertGreater(apart, 2 * made["size"])
 
     def test_switches_stand_in_the_picture_and_apart(self):
@@ -80,7 +88,9 @@ class OddNetworks(PagesInBrowser):
                 self.open(*files, self.plan(files), "--layout", "own")
                 self.assertEqual([], self.tab.console)
                 self.assertEqual(form[0], len(self.text("#nodes .switch")))
-                self.assertEqual(0, self.tab.value("document.querySelector('#picture').innerHTML.includes('NaN') ? 1 : 0"))
+                self.assertEqual(
+                    0, self.tab.value("document.querySelector('#picture').innerHTML.includes('NaN') ? 1 : 0")
+                )
 
 
 class BadFiles(Pages):
@@ -95,7 +105,10 @@ class BadFiles(Pages):
 
     def test_a_planner_that_is_not_there(self):
         files = self.files(networks.example("square"))
-        said = self.page(*files, os.path.join(networks.ROOT, "examples/square/plan.json"), "--planner", os.path.join(self.folder, "none"), status=125)[1]
+        said = self.page(
+            *files, os.path.join(networks.ROOT, "examples/square/plan.json"), "--planner",
+            os.path.join(self.folder, "none"), status=125,
+        )[1]
         self.assertIn("the planner can't be run", said)
 
 

@@ -1,4 +1,5 @@
-"""Where a page opens, what it says of a run's beginning and of packets that are sent back, and that no name is cut off at the edge of the picture."""
+"""Where a page opens, what it says of a run's beginning and of packets that are sent back, and that no name is cut off
+at the edge of the picture."""
 import json
 import os
 import unittest
@@ -24,13 +25,18 @@ class Opening(PagesInBrowser):
         self.assertIn(f"event {count} of {count}; round 1 runs", self.seen("#event"))
         self.assertEqual("hop 0", text.splitlines()[-1])
         self.assertEqual("packet 0 goes from s3 to s1, where it has been before", self.seen("#events .now"))
-        self.assertEqual("round 1 of 2" if self.tab.value("view.update.rounds.length") == 2 else "round 1 of 1", self.seen("#position"))
+        self.assertEqual(
+            "round 1 of 2" if self.tab.value("view.update.rounds.length") == 2 else "round 1 of 1",
+            self.seen("#position"),
+        )
         self.tab.open(os.path.join(self.folder, "update.html"), "#event=0")
         self.assertIn("event 0 of", self.seen("#event"))
 
     def test_no_change_is_done_before_the_run_begins(self):
         files = paths("square")
-        self.open(*files, "--schedule", os.path.join(networks.ROOT, "examples/square/schedule"), hash="#round=1&event=0")
+        self.open(
+            *files, "--schedule", os.path.join(networks.ROOT, "examples/square/schedule"), hash="#round=1&event=0"
+        )
         self.assertIn("event 0 of 8", self.seen("#event"))
         self.assertIn("pending: ", self.seen("#changes"))
         self.assertNotIn("done", self.seen("#changes"))
@@ -58,7 +64,9 @@ class Opening(PagesInBrowser):
         old["rules"][2]["out"] = 1
         files[1] = networks.write(self.folder, "old.json", old)
         self.open(*files)
-        self.tab.value("view.choose({ class: [...view.order].find((it) => view.update.classOf(it).address === 10 * 2 ** 24) })")
+        self.tab.value(
+            "view.choose({ class: [...view.order].find((it) => view.update.classOf(it).address === 10 * 2 ** 24) })"
+        )
         self.assertIn("dropped by s3: its output is the port it came in by", self.seen("#packetclass"))
 
     def test_no_name_is_cut_off(self):

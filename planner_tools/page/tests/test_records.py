@@ -6,7 +6,9 @@ import re
 import networks
 from common import Pages
 
-SQUARE = [os.path.join(networks.ROOT, "examples", "square", f"{name}.json") for name in networks.FILES] + [os.path.join(networks.ROOT, "examples", "square", "plan.json")]
+SQUARE = [os.path.join(networks.ROOT, "examples", "square", f"{name}.json") for name in networks.FILES] + [
+    os.path.join(networks.ROOT, "examples", "square", "plan.json")
+]
 
 
 class Records(Pages):
@@ -28,12 +30,17 @@ class Records(Pages):
 
     def test_a_record_with_a_session_that_was_opened_anew_is_played_and_one_that_was_turned_back_is_refused(self):
         hello = "0100000800000000"
-        lines = [*(f"feed {name} {hello}" for name in ("s1", "s2", "s3", "s4")), "start", "reopen s1", f"feed s1 {hello}", "feed s1 0113000800000002"]
+        lines = [
+            *(f"feed {name} {hello}" for name in ("s1", "s2", "s3", "s4")), "start", "reopen s1", f"feed s1 {hello}",
+            "feed s1 0113000800000002",
+        ]
         record = networks.write(self.folder, "update", "".join(f"{line}\n" for line in lines))
         path, said = self.page(*SQUARE, "--schedule", record)
         with open(path, encoding="utf-8") as file:
             values = json.loads(re.search(r'"schedule":(\{.*?\})[,}]', file.read())[1])
-        self.assertEqual((values["lines"], values["run"], said), (["start", "change 0", "settle", "# settled 1 of 2"], True, ""))
+        self.assertEqual(
+            (values["lines"], values["run"], said), (["start", "change 0", "settle", "# settled 1 of 2"], True, "")
+        )
         record = networks.write(self.folder, "update", "".join(f"{line}\n" for line in [*lines, "back"]))
         _, said = self.page(*SQUARE, "--schedule", record, status=1)
         self.assertIn("is of an update that was turned back: its events are no schedule", said)

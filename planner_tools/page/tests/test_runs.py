@@ -10,11 +10,16 @@ from test_examples import paths
 # Random updates, each by a maker and a seed.
 UPDATES = [(networks.some_update, seed) for seed in range(8)] + [(networks.some_crossing, seed) for seed in range(3)]
 # Updates that are carried out carelessly: those of the first kind let no packet go wrong even so, the others do.
-CARELESS = [(networks.some_update, seed) for seed in range(6)] + [(networks.some_crossing, seed) for seed in range(6)] + [(networks.ring, 5), (networks.ring, 8)]
+CARELESS = (
+    [(networks.some_update, seed) for seed in range(6)]
+    + [(networks.some_crossing, seed) for seed in range(6)]
+    + [(networks.ring, 5), (networks.ring, 8)]
+)
 # How many packets enter for each round: so many that some do in each.
 PACKETS = 12
 
-# The hops of the run that are not among the steps which the page shows for the class of the packet, in the round in which the run is.
+# The hops of the run that are not among the steps which the page shows for the class of the packet, in the round in
+# which the run is.
 WATCH = """(() => {
     const missing = [], known = new Map(), player = view.player;
     const shown = (position, number) => {
@@ -81,27 +86,45 @@ class Runs(PagesInBrowser):
         places = []
         for _ in range(8):
             self.tab.value("document.getElementById('next').click()")
-            places.append(self.tab.value("[...document.querySelectorAll('#riders .rider')].map((it) => it.dataset.at).join()"))
+            places.append(
+                self.tab.value("[...document.querySelectorAll('#riders .rider')].map((it) => it.dataset.at).join()")
+            )
         self.assertEqual(["", "s1", "s2", "s2", "s3", "s4", "", ""], places)
         self.assertEqual(["left s4:3 untagged"], self.ends())
         self.assertIn("event 8 of 8; 1 of 2 rounds settled", self.seen("#event"))
         self.tab.value("for (let turn = 0; turn < 5; turn++) document.getElementById('previous').click()")
-        self.assertEqual(["pending"], self.tab.value("[...document.querySelectorAll('#nodes .words')].map((it) => it.textContent)"))
+        self.assertEqual(
+            ["pending"], self.tab.value("[...document.querySelectorAll('#nodes .words')].map((it) => it.textContent)")
+        )
         self.tab.value("document.getElementById('next').click()")
-        self.assertEqual(["changed"], self.tab.value("[...document.querySelectorAll('#nodes .words')].map((it) => it.textContent)"))
+        self.assertEqual(
+            ["changed"], self.tab.value("[...document.querySelectorAll('#nodes .words')].map((it) => it.textContent)")
+        )
         self.assertEqual("s1 is changed: replace 10.0.0.0/24 -> port 4 to s4", self.seen("#events .now"))
         self.assertEqual("change 0", self.tab.value("document.querySelector('#events .now').title"))
 
     def test_events_stand_in_words(self):
         self.open(*paths("square"), "--schedule", os.path.join(networks.ROOT, "examples/square/schedule"))
-        self.assertEqual(["round 1 begins: replace at s1", "packet 0 enters at s1:1 untagged for 10.0.0.1", "packet 0 goes from s1 to s2", "s1 is changed: replace 10.0.0.0/24 -> port 4 to s4",
-                          "packet 0 goes from s2 to s3", "packet 0 goes from s3 to s4", "packet 0 leaves at s4:3", "round 1 is settled"], self.text("#events li:not(.comment)"))
+        self.assertEqual(
+            [
+                "round 1 begins: replace at s1", "packet 0 enters at s1:1 untagged for 10.0.0.1",
+                "packet 0 goes from s1 to s2", "s1 is changed: replace 10.0.0.0/24 -> port 4 to s4",
+                "packet 0 goes from s2 to s3", "packet 0 goes from s3 to s4", "packet 0 leaves at s4:3",
+                "round 1 is settled",
+            ],
+            self.text("#events li:not(.comment)"),
+        )
 
     def test_a_change_is_done_only_where_the_run_has_made_it(self):
         schedule = os.path.join(networks.ROOT, "examples/square/schedule")
-        for hash, said in (("", ""), ("#round=1", "s1 replace 10.0.0.0/24 -> port 4 to s4 (priority 100)"), ("#event=1", "pending: s1 replace 10.0.0.0/24 -> port 4 to s4 (priority 100)"),
-                           ("#event=4", "done: s1 replace 10.0.0.0/24 -> port 4 to s4 (priority 100)"), ("#event=0&round=1", "pending: s1 replace 10.0.0.0/24 -> port 4 to s4 (priority 100)"),
-                           ("#event=8&round=1", "done: s1 replace 10.0.0.0/24 -> port 4 to s4 (priority 100)"), ("#event=8&round=2", "pending: s3 replace 10.0.0.0/24 -> port 3 to s1 (priority 100)")):
+        for hash, said in (
+            ("", ""), ("#round=1", "s1 replace 10.0.0.0/24 -> port 4 to s4 (priority 100)"),
+            ("#event=1", "pending: s1 replace 10.0.0.0/24 -> port 4 to s4 (priority 100)"),
+            ("#event=4", "done: s1 replace 10.0.0.0/24 -> port 4 to s4 (priority 100)"),
+            ("#event=0&round=1", "pending: s1 replace 10.0.0.0/24 -> port 4 to s4 (priority 100)"),
+            ("#event=8&round=1", "done: s1 replace 10.0.0.0/24 -> port 4 to s4 (priority 100)"),
+            ("#event=8&round=2", "pending: s3 replace 10.0.0.0/24 -> port 3 to s1 (priority 100)"),
+        ):
             with self.subTest(hash):
                 self.open(*paths("square"), "--schedule", schedule, hash=hash)
                 self.assertEqual([said] if said else [], self.text("#changes li"))
@@ -111,16 +134,28 @@ class Runs(PagesInBrowser):
         files.append(networks.write(self.folder, "at_once.json", networks.at_once(networks.leaves(5))))
         schedule = networks.write(self.folder, "run", "start\nchange 0\n")
         self.open(*files, "--schedule", schedule, hash="#event=2")
-        self.assertEqual(["l0 4 changes: replace; 1 done", "l1 4 changes: replace; pending"], [words.replace(", 1 for these packets", "") for words in self.text("#groups summary")[:2]])
-        self.tab.value("view.list.group = ((make) => (at, changes, ...more) => make.call(view.list, at, changes.slice(0, 1), ...more))(view.list.group); view.draw()")
-        self.assertEqual(["l0 1 change: replace; done", "l1 1 change: replace; pending"], [words.replace(", 1 for these packets", "") for words in self.text("#groups summary")[:2]])
+        self.assertEqual(
+            ["l0 4 changes: replace; 1 done", "l1 4 changes: replace; pending"],
+            [words.replace(", 1 for these packets", "") for words in self.text("#groups summary")[:2]],
+        )
+        self.tab.value(
+            "view.list.group = ((make) => (at, changes, ...more) => make.call(view.list, at, changes.slice(0, 1),"
+            " ...more))(view.list.group); view.draw()"
+        )
+        self.assertEqual(
+            ["l0 1 change: replace; done", "l1 1 change: replace; pending"],
+            [words.replace(", 1 for these packets", "") for words in self.text("#groups summary")[:2]],
+        )
 
     def test_a_run_of_a_refused_plan_opens_at_the_step_that_goes_wrong(self):
         files = paths("square", "plan-at-once.json")
         status, run = self.ask("explain", *files)
         self.assertEqual(0, status)
         events = [line for line in run.splitlines() if not line.startswith("#")]
-        self.open(*files, "--schedule", networks.write(self.folder, "run", run + "settle\n" if run.count("change") == 2 else run))
+        self.open(
+            *files, "--schedule",
+            networks.write(self.folder, "run", run + "settle\n" if run.count("change") == 2 else run),
+        )
         self.assertIn(f"event {len(events)} of {self.tab.value('view.player.events.length')};", self.seen("#event"))
         self.assertEqual("packet 0 goes from s3 to s1, where it has been before", self.seen("#events .now"))
         self.assertEqual("round 1 of 1", self.seen("#position"))
@@ -134,7 +169,9 @@ class Runs(PagesInBrowser):
         self.check_run(files, networks.write(self.folder, "record", text))
 
     def test_a_schedule_that_is_no_run_stops_where_the_planner_says(self):
-        schedule = networks.write(self.folder, "schedule", "# a record\nstart\nenter s1:1 untagged 10.0.0.1\nsettle\nhop 0\n")
+        schedule = networks.write(
+            self.folder, "schedule", "# a record\nstart\nenter s1:1 untagged 10.0.0.1\nsettle\nhop 0\n"
+        )
         self.open(*paths("square"), "--schedule", schedule)
         self.assertIn("not a run: line 4", self.seen("#events .cannot"))
         self.tab.value("view.play(Infinity)")
@@ -149,9 +186,15 @@ class Runs(PagesInBrowser):
 
     def test_the_record_of_an_update_is_played_as_drive_tells_it(self):
         hello, answer = "0100000800000001", "0113000800000002"
-        record = networks.write(self.folder, "update", "".join(f"feed s{at} {hello}\n" for at in range(1, 5)) + f"start\nfeed s1 {answer}\nstart\n")
+        record = networks.write(
+            self.folder, "update",
+            "".join(f"feed s{at} {hello}\n" for at in range(1, 5)) + f"start\nfeed s1 {answer}\nstart\n",
+        )
         self.open(*paths("square"), "--schedule", record)
-        self.assertEqual(["start", "change 0", "settle", "start"], self.tab.value("[...document.querySelectorAll('#events li:not(.comment)')].map((it) => it.title)"))
+        self.assertEqual(
+            ["start", "change 0", "settle", "start"],
+            self.tab.value("[...document.querySelectorAll('#events li:not(.comment)')].map((it) => it.title)"),
+        )
         self.tab.value("view.play(4)")
         self.assertEqual("round 2 of 2", self.seen("#position"))
         self.assertIn("event 4 of 4; round 2 runs", self.seen("#event"))
@@ -173,7 +216,9 @@ class Runs(PagesInBrowser):
                 self.assertEqual(0, status)
                 self.assertEqual(set(range(len(plan["rounds"]) + 1)), set(map(int, re.findall(r" born (\d+):", text))))
                 self.check_run(files, networks.write(self.folder, "record", text))
-        self.assertEqual({(kind, what) for kind in ("ordered", "two-phase") for what in ("insert", "delete", "replace")}, changes)
+        self.assertEqual(
+            {(kind, what) for kind in ("ordered", "two-phase") for what in ("insert", "delete", "replace")}, changes
+        )
 
     def test_what_explain_says_of_careless_plans(self):
         shown = 0

@@ -13,17 +13,23 @@ from planner_tools.switches import openflow
 DELETE_STRICT = 4
 TAG_PRIORITY = 1 << 20      # the bit of `wildcards`
 MARK_TYPE = 0x88B5          # the type of the packets of a mark
-NAMED = 0x4E414D45          # the xid of the echo request behind its features: where that is answered, the controller knows which switch it is
+# the xid of the echo request behind its features: where that is answered, the controller knows which switch it is
+NAMED = 0x4E414D45
 
 
 def match_of(rule):
-    """The 40 bytes of a rule's match, as a real switch reports them: under an untagged match the priority of the tag is exact."""
+    """The 40 bytes of a rule's match, as a real switch reports them: under an untagged match the priority of the tag is
+    exact."""
     base, length = rule["dst"].split("/")
     port, vlan = rule.get("in_port", "any"), rule.get("vlan", "any")
     wildcards = 0x003020EC | (32 - int(length)) << 14 | (port == "any") | (vlan == "any") << 1
     wildcards &= ~TAG_PRIORITY if vlan == "untagged" else -1
     tag = {"any": 0, "untagged": 0xFFFF}.get(vlan, vlan)
-    return struct.pack("!IH12xH2xH8x", wildcards, 0 if port == "any" else port, tag, 0x0800) + socket.inet_aton(base) + bytes(4)
+    return (
+        struct.pack("!IH12xH2xH8x", wildcards, 0 if port == "any" else port, tag, 0x0800)
+        + socket.inet_aton(base)
+        + bytes(4)
+    )
 
 
 def actions_of(rule):
@@ -32,7 +38,12 @@ def actions_of(rule):
 
 def entry_of(match, priority, actions, cookie=0, idle=0):
     """An entry of flow statistics."""
-    return struct.pack("!HBx", 88 + len(actions), 0) + match + struct.pack("!IIHHH6xQ16x", 1, 0, priority, idle, 0, cookie) + actions
+    return (
+        struct.pack("!HBx", 88 + len(actions), 0)
+        + match
+        + struct.pack("!IIHHH6xQ16x", 1, 0, priority, idle, 0, cookie)
+        + actions
+    )
 
 
 def extended_of(match, priority, actions, cookie=0, idle=0):
@@ -42,10 +53,27 @@ def extended_of(match, priority, actions, cookie=0, idle=0):
     fields = struct.pack("!IH", 0x002, in_port) if not wildcards & 1 else b""
     fields += struct.pack("!I6s", 0x406, source) if not wildcards & 4 else b""
     fields += struct.pack("!IH", 0x602, kind)
-    fields += b"" if wildcards & 2 else struct.pack("!IH", 0x802, 0) if vlan == 0xFFFF else struct.pack("!IHH", 0x904, 0x1000 | vlan, 0x1FFF)
+    fields += (
+        b""
+        if wildcards & 2
+        else struct.pack("!IH", 0x802, 0)
+        if vlan == 0xFFFF
+        else struct.pack("!IHH", 0x904, 0x1000 | vlan, 0x1FFF)
+    )
     mask = struct.pack("!I", 0xFFFFFFFF << 32 - length & 0xFFFFFFFF)
-    fields += b"" if length == 0 else struct.pack("!I4s", 0x1004, match[32:36]) if length == 32 else struct.pack("!I4s4s", 0x1108, match[32:36], mask)
-    body = struct.pack("!BxIIHHHH4xQ16x", 0, 1, 0, priority, idle, 0, len(fields), cookie) + fields + bytes(-len(fields) % 8) + actions
+    fields += (
+        b""
+        if length == 0
+        else struct.pack("!I4s", 0x1004, match[32:36])
+        if length == 32
+        else struct.pack("!I4s4s", 0x1108, match[32:36], mask)
+    )
+    body = (
+        struct.pack("!BxIIHHHH4xQ16x", 0, 1, 0, priority, idle, 0, len(fields), cookie)
+        + fields
+        + bytes(-len(fields) % 8)
+        + actions
+    )
     return struct.pack("!H", 2 + len(body)) + body
 
 
@@ -57,11 +85,13 @@ def key_of(match, priority):
 
 
 class FakeSwitch(threading.Thread):
-    """A switch that connects to `address`, again and again until `stop`; or, with `listen`, waits there, for any number of controllers.
+    """A switch that connects to `address`, again and again until `stop`; or, with `listen`, waits there, for any number
+    of controllers.
 
     rules       what its table has at the beginning
     error_at    the number, from 1, of the flow message that is answered by the error `error`
-    close_at    the number, from 1, of the barrier request of a round at which it closes the connection and answers nothing
+    close_at    the number, from 1, of the barrier request of a round at which it closes the connection and answers
+                nothing
     empty_at    the same, and its table is empty after that
     piece       how many bytes it sends at a time
     delay       seconds before each barrier reply of a round
@@ -76,19 +106,30 @@ class FakeSwitch(threading.Thread):
     refuses     whether it refuses each flow message that the controller makes of its own
     """
 
-    def __init__(self, datapath, address, rules=(), listen=False, error_at=None, error=(3, 0), close_at=None, piece=None, delay=0.0, is_silent=False, noise=b"",
-                 echo=None, hello=bytes.fromhex("0100000800000001"), largest=65535, empty_at=None, late=0.0, has_extended=False, refuses=False, greeting=b""):
+    def __init__(
+        self, datapath, address, rules=(), listen=False, error_at=None, error=(3, 0), close_at=None, piece=None,
+        delay=0.0, is_silent=False, noise=b"", echo=None, hello=bytes.fromhex("0100000800000001"), largest=65535,
+        empty_at=None, late=0.0, has_extended=False, refuses=False, greeting=b"",
+    ):
         super().__init__(daemon=True)
         self.datapath, self.address, self.listen = datapath, address, listen
-        self.table = {key_of(match_of(rule), rule["priority"]): [match_of(rule), rule["priority"], actions_of(rule)] for rule in rules}
-        self.error_at, self.error, self.close_at, self.piece, self.delay, self.is_silent = error_at, error, close_at, piece, delay, is_silent
+        self.table = {
+            key_of(match_of(rule), rule["priority"]): [match_of(rule), rule["priority"], actions_of(rule)]
+            for rule in rules
+        }
+        self.error_at, self.error, self.close_at, self.piece, self.delay, self.is_silent = (
+            error_at, error, close_at, piece, delay, is_silent,
+        )
         self.noise, self.echo, self.hello, self.largest = noise, echo, hello, largest
-        self.empty_at, self.late, self.has_extended, self.refuses, self.greeting = empty_at, late, has_extended, refuses, greeting
+        self.empty_at, self.late, self.has_extended, self.refuses, self.greeting = (
+            empty_at, late, has_extended, refuses, greeting,
+        )
         self.entries = None         # entries to report in place of its table
         self.extended = None        # entries of its extended statistics, where it has such
         self.own_messages = self.flow_messages = self.barriers = self.connections = self.echoes = 0
         self.received = b""
-        self.counts_names, self.names = False, 0       # whether it counts how often a controller has learned which switch it is
+        # whether it counts how often a controller has learned which switch it is
+        self.counts_names, self.names = False, 0
         self.ended, self.lost = threading.Event(), threading.Event()
         self.server = socket.create_server(address) if listen else None
         if listen:
@@ -167,7 +208,10 @@ class FakeSwitch(threading.Thread):
         """Whether the connection goes on behind a message."""
         kind, xid = openflow.type_of(piece), openflow.xid_of(piece)
         if kind == openflow.FEATURES_REQUEST:
-            self.send(sock, openflow.message(openflow.FEATURES_REPLY, xid, struct.pack("!QIB3xII", self.datapath, 0, 1, 0, 0xFFF)))
+            self.send(
+                sock,
+                openflow.message(openflow.FEATURES_REPLY, xid, struct.pack("!QIB3xII", self.datapath, 0, 1, 0, 0xFFF)),
+            )
             if self.counts_names:
                 self.send(sock, openflow.message(openflow.ECHO_REQUEST, NAMED))
         elif kind == openflow.FLOW_MOD and xid >= 0xFEA70000:
@@ -208,7 +252,9 @@ class FakeSwitch(threading.Thread):
         if command == DELETE_STRICT:
             self.table.pop(key, None)
         else:
-            self.table[key] = [self.table.get(key, [match])[0], priority, piece[72:], int.from_bytes(piece[48:56], "big")]
+            self.table[key] = [
+                self.table.get(key, [match])[0], priority, piece[72:], int.from_bytes(piece[48:56], "big"),
+            ]
 
     def tell_table(self, sock, xid):
         entries = [entry_of(*one) for one in list(self.table.values())] if self.entries is None else list(self.entries)
@@ -224,5 +270,10 @@ class FakeSwitch(threading.Thread):
 def switches_of(datapaths, config, address, only=None, **more):
     """A switch for each of {name: datapath}, with the tables of a configuration; `only` has arguments by name."""
     rules = json.loads(pathlib.Path(config).read_text(encoding="utf-8"))["rules"]
-    return {name: FakeSwitch(datapath, address, [rule for rule in rules if rule["switch"] == name], **{**more, **(only or {}).get(name, {})})
-            for name, datapath in datapaths.items()}
+    return {
+        name: FakeSwitch(
+            datapath, address, [rule for rule in rules if rule["switch"] == name],
+            **{**more, **(only or {}).get(name, {})},
+        )
+        for name, datapath in datapaths.items()
+    }

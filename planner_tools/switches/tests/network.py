@@ -19,7 +19,10 @@ ROOT = pathlib.Path(__file__).resolve().parents[3]
 EXAMPLES = ROOT / "examples"
 FRONT_END = ROOT / "planner"
 PLANNER = program.path()
-DATAPATHS = {"square": {"s1": 0xA1, "s2": 0xA2, "s3": 0xA3, "s4": 0xA4}, "detour": {"s": 0xB1, "x": 0xB2, "w": 0xB3, "y": 0xB4, "d": 0xB5}}
+DATAPATHS = {
+    "square": {"s1": 0xA1, "s2": 0xA2, "s3": 0xA3, "s4": 0xA4},
+    "detour": {"s": 0xB1, "x": 0xB2, "w": 0xB3, "y": 0xB4, "d": 0xB5},
+}
 # No run of a test takes longer, in seconds.
 LONGEST = 120
 # The lines that are printed to be typed name the planner by its name where it is on the path.
@@ -27,11 +30,14 @@ os.environ["PATH"] = os.pathsep.join([str(FRONT_END.parent), os.environ["PATH"]]
 
 
 def planner(*words):
-    return subprocess.run([PLANNER, *map(str, words)], capture_output=True, text=True, timeout=LONGEST, check=False).stdout
+    return subprocess.run(
+        [PLANNER, *map(str, words)], capture_output=True, text=True, timeout=LONGEST, check=False
+    ).stdout
 
 
 def heed_interrupts():
-    """Has what is begun heed an interrupt and a closed terminal also where these tests were begun in the background, with these ignored."""
+    """Has what is begun heed an interrupt and a closed terminal also where these tests were begun in the background,
+    with these ignored."""
     for number in (signal.SIGINT, signal.SIGHUP, signal.SIGTERM):
         signal.signal(number, signal.SIG_DFL)
 
@@ -54,9 +60,15 @@ class Network:
         self.record, self.listed = self.folder / "input", self.folder / "switches"
         with socket.create_server(("127.0.0.1", 0)) as free:
             self.address = free.getsockname()
-        self.switches = fake_switch.switches_of(DATAPATHS[name], EXAMPLES / name / config, ("127.0.0.1", 0) if listen else self.address, listen=listen, **more)
+        self.switches = fake_switch.switches_of(
+            DATAPATHS[name], EXAMPLES / name / config, ("127.0.0.1", 0) if listen else self.address, listen=listen,
+            **more,
+        )
         self.where = [] if listen else ["--listen", "%s:%d" % self.address]
-        lines = [f"{one} {datapath:016x}" + (" %s:%d" % self.switches[one].address if listen else "") for one, datapath in DATAPATHS[name].items()]
+        lines = [
+            f"{one} {datapath:016x}" + (" %s:%d" % self.switches[one].address if listen else "")
+            for one, datapath in DATAPATHS[name].items()
+        ]
         self.listed.write_text("".join(f"{line}\n" for line in lines))
         for one in self.switches.values():
             one.start()
@@ -64,9 +76,14 @@ class Network:
 
     def begin(self, *more, before=(), program=PLANNER):
         """A run of `planner apply`, begun behind these words, with this program."""
-        words = [*before, sys.executable, FRONT_END, "apply", *self.files, self.record, "--switches", self.listed, *self.where, *more]
-        run = subprocess.Popen([*map(str, words), *([] if {"--wait", "--ask"} & set(more) else ["--wait", "0.05"])], stdin=subprocess.PIPE, stderr=subprocess.PIPE, text=True,
-                               env={**os.environ, "PLANNER": program}, preexec_fn=heed_interrupts)
+        words = [
+            *before, sys.executable, FRONT_END, "apply", *self.files, self.record, "--switches", self.listed,
+            *self.where, *more,
+        ]
+        run = subprocess.Popen(
+            [*map(str, words), *([] if {"--wait", "--ask"} & set(more) else ["--wait", "0.05"])], stdin=subprocess.PIPE,
+            stderr=subprocess.PIPE, text=True, env={**os.environ, "PLANNER": program}, preexec_fn=heed_interrupts,
+        )
         self.test.addCleanup(end, run)
         return run
 
@@ -102,7 +119,9 @@ class Network:
     def add(self, name, rule):
         """Changes the table of a switch by hand."""
         match = fake_switch.match_of(rule)
-        self.switches[name].table[fake_switch.key_of(match, rule["priority"])] = [match, rule["priority"], fake_switch.actions_of(rule), 0]
+        self.switches[name].table[fake_switch.key_of(match, rule["priority"])] = [
+            match, rule["priority"], fake_switch.actions_of(rule), 0,
+        ]
 
     def collect(self, *more):
         words = [sys.executable, FRONT_END, "collect", self.files[0], "--switches", self.listed, *self.where, *more]
@@ -111,12 +130,18 @@ class Network:
     def told(self):
         """What `planner serve` says of the record."""
         with open(self.record, "rb") as record:
-            return subprocess.run([PLANNER, "serve", *map(str, self.files)], stdin=record, capture_output=True, text=True, timeout=LONGEST, check=False).stdout
+            return subprocess.run(
+                [PLANNER, "serve", *map(str, self.files)], stdin=record, capture_output=True, text=True,
+                timeout=LONGEST, check=False,
+            ).stdout
 
     def has(self, config):
         """Whether the switches have exactly the rules of a configuration."""
         wanted = fake_switch.switches_of(DATAPATHS[self.files[0].parent.name], config, None)
-        return all({key: it[2] for key, it in one.table.items()} == {key: it[2] for key, it in wanted[name].table.items()} for name, one in self.switches.items())
+        return all(
+            {key: it[2] for key, it in one.table.items()} == {key: it[2] for key, it in wanted[name].table.items()}
+            for name, one in self.switches.items()
+        )
 
 
 class UpdateTest(unittest.TestCase):

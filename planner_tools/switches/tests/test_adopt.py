@@ -20,7 +20,8 @@ SECONDS = 4 * LONGEST
 
 class Adopting(unittest.TestCase):
     def network(self, is_empty=True, has_default=("s1", "s2", "s3", "s4"), **more):
-        """The switches of the square, empty or with the old tables, some with the default entry; and the folder of their network."""
+        """The switches of the square, empty or with the old tables, some with the default entry; and the folder of
+        their network."""
         net = Network(self, "square", listen=True, **more)
         for name, switch in net.switches.items():
             if is_empty:
@@ -34,8 +35,14 @@ class Adopting(unittest.TestCase):
         return net
 
     def adopt(self, net, *more):
-        done = subprocess.run([sys.executable, str(FRONT_END), "adopt", str(net.wanted), "--switches", str(net.listed), "--patience", "60", *map(str, more)], capture_output=True, text=True,
-                              stdin=subprocess.DEVNULL, timeout=SECONDS, check=False, env={**os.environ, "PLANNER": PLANNER})
+        done = subprocess.run(
+            [
+                sys.executable, str(FRONT_END), "adopt", str(net.wanted), "--switches", str(net.listed), "--patience",
+                "60", *map(str, more),
+            ],
+            capture_output=True, text=True, stdin=subprocess.DEVNULL, timeout=SECONDS, check=False,
+            env={**os.environ, "PLANNER": PLANNER},
+        )
         self.assertEqual("", done.stdout)
         return done.returncode, done.stderr
 
@@ -43,7 +50,11 @@ class Adopting(unittest.TestCase):
     def commands(switch):
         """The commands of the flow messages that a switch was sent, with their priorities."""
         pieces, _ = openflow.cut(switch.received)
-        return [(int.from_bytes(one[56:58], "big"), int.from_bytes(one[62:64], "big")) for one in pieces if openflow.type_of(one) == openflow.FLOW_MOD]
+        return [
+            (int.from_bytes(one[56:58], "big"), int.from_bytes(one[62:64], "big"))
+            for one in pieces
+            if openflow.type_of(one) == openflow.FLOW_MOD
+        ]
 
     def is_untouched(self, net):
         for switch in net.switches.values():
@@ -71,7 +82,9 @@ class Adopting(unittest.TestCase):
         self.assertEqual(0, status, said)
         self.assertIn("s1: 1 entry taken\n", said)
         self.assertTrue(net.has(EXAMPLES / "square" / "old.json"))
-        self.assertEqual([[], [(4, 0)], [], []], [self.commands(net.switches[name]) for name in ("s1", "s2", "s3", "s4")])
+        self.assertEqual(
+            [[], [(4, 0)], [], []], [self.commands(net.switches[name]) for name in ("s1", "s2", "s3", "s4")]
+        )
         status, said = self.adopt(net)
         self.assertEqual(0, status, said)
         self.assertIn("nothing is to be done at the switches", said)
@@ -80,7 +93,13 @@ class Adopting(unittest.TestCase):
         net = self.network()
         status, said = self.adopt(net, "--dry-run")
         self.assertEqual(0, status, said)
-        self.assertIn("packets that no rule takes, and those of other types (ARP, IPv6) without an entry of their own, are dropped from then on", said)
+        self.assertIn(
+            (
+                "packets that no rule takes, and those of other types (ARP, IPv6) without an entry of their own, are"
+                " dropped from then on"
+            ),
+            said,
+        )
         self.assertIn("a dry run ends here: nothing was sent", said)
         self.assertEqual(4, len(self.old(net)))
         status, said = self.adopt(net)
@@ -94,9 +113,14 @@ class Adopting(unittest.TestCase):
         net.switches["s1"].table[fake_switch.key_of(tcp, 200)] = [tcp, 200, b"", 0]
         status, said = self.adopt(net, "--yes")
         self.assertEqual(1, status, said)
-        self.assertIn("s1: 1 entry taken, 1 entry can't be said, and the default entry of standalone mode, NORMAL\n", said)
+        self.assertIn(
+            "s1: 1 entry taken, 1 entry can't be said, and the default entry of standalone mode, NORMAL\n", said
+        )
         self.assertIn("it tests nw_proto", said)
-        self.assertIn("stopped: 1 entry can't be said in a configuration: they stand above. Next: change them at the switches", said)
+        self.assertIn(
+            "stopped: 1 entry can't be said in a configuration: they stand above. Next: change them at the switches",
+            said,
+        )
         self.is_untouched(net)
         self.assertFalse((net.wanted / "old.json").exists())
 
@@ -105,7 +129,9 @@ class Adopting(unittest.TestCase):
         (net.wanted / "old.json").write_text('{"rules": []}')
         status, said = self.adopt(net, "--yes")
         self.assertEqual(1, status, said)
-        self.assertIn("is there, and says something else than the switches would have. Next: move it away, and begin again", said)
+        self.assertIn(
+            "is there, and says something else than the switches would have. Next: move it away, and begin again", said
+        )
         self.assertEqual([], self.old(net))
         self.is_untouched(net)
 
@@ -115,7 +141,9 @@ class Adopting(unittest.TestCase):
         status, said = self.adopt(net, "--yes")
         self.assertEqual(1, status, said)
         self.assertIn("is dropped by s1, though the policy says that it must arrive.", said)
-        self.assertIn("stopped: no plan can start from these rules; nothing was written or sent. Next: --own CONFIG", said)
+        self.assertIn(
+            "stopped: no plan can start from these rules; nothing was written or sent. Next: --own CONFIG", said
+        )
         self.is_untouched(net)
         self.assertFalse((net.wanted / "old.json").exists())
         status, said = self.adopt(net, "--yes", "--own", EXAMPLES / "square" / "old.json")
@@ -126,14 +154,21 @@ class Adopting(unittest.TestCase):
         net = self.network(only={"s3": {"refuses": True}})
         status, said = self.adopt(net, "--yes")
         self.assertEqual(1, status, said)
-        self.assertIn("stopped: s3 refuses a change: flow message failed: all tables full. Next: see to that, and begin again", said)
+        self.assertIn(
+            "stopped: s3 refuses a change: flow message failed: all tables full. Next: see to that, and begin again",
+            said,
+        )
         self.assertTrue(all(fake_switch.key_of(DEFAULT_MATCH, 0) in switch.table for switch in net.switches.values()))
         mark = Mark(b"sixsix", 1).put()
         match = mark[8:48]
-        net.switches["s1"].table[fake_switch.key_of(match, 1)] = [match, 1, b"", Mark(b"sixsix", 1).begun | 0x706C616E << 32]
+        net.switches["s1"].table[fake_switch.key_of(match, 1)] = [
+            match, 1, b"", Mark(b"sixsix", 1).begun | 0x706C616E << 32,
+        ]
         status, said = self.adopt(net, "--yes")
         self.assertEqual(1, status, said)
-        self.assertIn("stopped: an update is at work: s1 has the mark 736978736978, begun 1970-01-01 00:00:01 UTC", said)
+        self.assertIn(
+            "stopped: an update is at work: s1 has the mark 736978736978, begun 1970-01-01 00:00:01 UTC", said
+        )
 
     def test_a_broken_network_gets_its_tables_by_a_plan_without_rounds_and_a_repair(self):
         """The way that docs/CONTROLLER.md names where entries are wrong, and not only missing."""
@@ -141,7 +176,9 @@ class Adopting(unittest.TestCase):
         net.add("s2", {"switch": "s2", "priority": 200, "dst": "10.0.0.0/24", "out": 1})
         wanted = net.wanted / "new.json"
         net.files = [net.files[0], wanted, wanted, net.wanted / "policy.json", net.wanted / "plan.json"]
-        text = subprocess.run([PLANNER, "pack", *map(str, net.files[:4])], capture_output=True, text=True, timeout=SECONDS, check=False).stdout
+        text = subprocess.run(
+            [PLANNER, "pack", *map(str, net.files[:4])], capture_output=True, text=True, timeout=SECONDS, check=False
+        ).stdout
         self.assertEqual([], json.loads(text)["rounds"])
         net.files[4].write_text(text)
         status, said = net.apply("--repair", "--patience", "60")

@@ -25,7 +25,9 @@ class Applying(UpdateTest):
                 net = Network(self, name)
                 run = net.apply("--wait", wait)
                 rounds = int(re.search(r"ok settled \d+ of (\d+)", self.settles(net, run))[1])
-                told = re.findall(r"round (\d+) of \d+ is settled, [0-9.]+ s after its start; (\d+) left, some \d+ s", run[1])
+                told = re.findall(
+                    r"round (\d+) of \d+ is settled, [0-9.]+ s after its start; (\d+) left, some \d+ s", run[1]
+                )
                 self.assertEqual(told, [(str(it), str(rounds - it)) for it in range(1, rounds)])
 
     def test_what_a_switch_receives_is_what_serve_says_and_questions_that_change_nothing(self):
@@ -34,12 +36,23 @@ class Applying(UpdateTest):
         def without_xid(data):
             return {piece[:4] + piece[8:] for piece in openflow.cut(data)[0]}
 
-        own = {openflow.HELLO_BYTES[:4], *without_xid(openflow.message(openflow.FEATURES_REQUEST, 0) + collect.questions(0) + net.mark().put() + net.mark().take_away())}
+        own = {
+            openflow.HELLO_BYTES[:4],
+            *without_xid(
+                openflow.message(openflow.FEATURES_REQUEST, 0)
+                + collect.questions(0)
+                + net.mark().put()
+                + net.mark().take_away()
+            ),
+        }
         for name, data in sent(text).items():
             pieces = openflow.cut(net.switches[name].received)[0]
             self.assertEqual(b"".join(it for it in pieces if openflow.xid_of(it) < OWN), data)
             self.assertLessEqual(without_xid(b"".join(it for it in pieces if openflow.xid_of(it) >= OWN)), own)
-            self.assertEqual([it[8:10] for it in pieces if openflow.type_of(it) == openflow.STATS_REQUEST].count(b"\0\1"), 5)     # at first, behind the mark, before each round, at last
+            # at first, behind the mark, before each round, at last
+            self.assertEqual(
+                [it[8:10] for it in pieces if openflow.type_of(it) == openflow.STATS_REQUEST].count(b"\0\1"), 5
+            )
 
     def test_each_line_of_the_record_is_followed_by_what_serve_says_of_it(self):
         net = Network(self, "square")
@@ -52,7 +65,9 @@ class Applying(UpdateTest):
 
     def test_bytes_one_by_one_and_other_messages_change_nothing(self):
         texts = []
-        for more in ({}, {"piece": 1, "noise": openflow.message(10, 0, bytes(30)) + openflow.message(12, 0, bytes(56))}):
+        for more in (
+            {}, {"piece": 1, "noise": openflow.message(10, 0, bytes(30)) + openflow.message(12, 0, bytes(56))},
+        ):
             net = Network(self, "square", **more)
             texts.append(self.settles(net, net.apply()))
         self.assertEqual(*texts)
@@ -70,7 +85,10 @@ class Applying(UpdateTest):
     def test_a_switch_that_never_answers_ends_the_patience(self):
         net = Network(self, "square", only={"s3": {"is_silent": True}})
         run = net.apply("--patience", "4")
-        self.stops(run, "1 of 2 rounds are settled, round 2 is running, no answer yet from s3", "see that s3 is connected and answers; then go on with")
+        self.stops(
+            run, "1 of 2 rounds are settled, round 2 is running, no answer yet from s3",
+            "see that s3 is connected and answers; then go on with",
+        )
         self.assertIn("the patience of 4 s is at its end: s3 hasn't answered the messages of the round", run[1])
         net.switches["s3"].is_silent = False
         self.settles(net, net.apply("--resume"))
@@ -84,8 +102,14 @@ class Applying(UpdateTest):
     def test_an_error_stops_the_update_with_its_cause(self):
         net = Network(self, "detour", only={"w": {"error_at": 2}})
         run = net.apply()
-        self.stops(run, "the session with w failed: Error 3 0 (flow message failed: all tables full); it is about: insert priority 16384 0.0.0.0/0 VLAN 3000; "
-                   "0 of 8 rounds are settled, round 1 is running", "make room in its table")
+        self.stops(
+            run,
+            (
+                "the session with w failed: Error 3 0 (flow message failed: all tables full); it is about: insert"
+                " priority 16384 0.0.0.0/0 VLAN 3000; 0 of 8 rounds are settled, round 1 is running"
+            ),
+            "make room in its table",
+        )
         self.assertIn("\nfailed w Error 3 0\n", net.told())
         self.assertIn("; --back in its place turns the update back", run[1].splitlines()[-1])
 
@@ -102,7 +126,13 @@ class Applying(UpdateTest):
         run = net.apply()
         text = self.settles(net, run)
         self.assertIn("s3 closed its connection; 1 of 2 rounds are settled, round 2 is running", run[1])
-        self.assertIn("s3 has what it must have; its session is opened anew, and what it hasn't answered of round 2 is sent again", run[1])
+        self.assertIn(
+            (
+                "s3 has what it must have; its session is opened anew, and what it hasn't answered of round 2 is sent"
+                " again"
+            ),
+            run[1],
+        )
         self.assertEqual((net.switches["s3"].connections, text.count("\nfailed ")), (2, 0))
         self.assertRegex(net.record.read_text(), "\nreopen s3\n#.*\nfeed s3 01000008")
 
@@ -127,7 +157,10 @@ class Applying(UpdateTest):
         net = Network(self, "square")
         net.apply_until("round 1 starts")
         net.files[4] = EXAMPLES / "square" / "plan-at-once.json"
-        self.stops(net.apply("--resume"), "was begun with other files, or they were changed since", "the files with which the update was begun")
+        self.stops(
+            net.apply("--resume"), "was begun with other files, or they were changed since",
+            "the files with which the update was begun",
+        )
 
     def test_a_file_that_is_no_record_stays_as_it_is(self):
         net = Network(self, "square")
@@ -139,7 +172,10 @@ class Applying(UpdateTest):
     def test_an_operator_who_ends_it_is_told_how_to_go_on(self):
         net = Network(self, "square")
         run = net.begin("--wait", "20")
-        while "the switches have the tables of" not in (net.record.read_text() if net.record.exists() else "") and run.poll() is None:
+        while (
+            "the switches have the tables of" not in (net.record.read_text() if net.record.exists() else "")
+            and run.poll() is None
+        ):
             time.sleep(0.01)
         run.terminate()
         said = run.communicate(timeout=10)[1]
@@ -161,24 +197,39 @@ class Applying(UpdateTest):
     def test_other_tables_than_the_old_ones_stop_the_update_before_it_begins(self):
         net = Network(self, "square", config="new.json")
         run = net.apply()
-        self.stops(run, "not as they must be, and said above. So the switches don't have the tables of", f"make a plan from {net.record}.before.json, which has those")
+        self.stops(
+            run, "not as they must be, and said above. So the switches don't have the tables of",
+            f"make a plan from {net.record}.before.json, which has those",
+        )
         self.assertIn("s1: not as it must be: priority 100 10.0.0.0/24 -> output 4: must be output 2\n", run[1])
         self.assertEqual(sum(one.flow_messages + one.own_messages for one in net.switches.values()), 0)
         old = net.files[1]
-        net.files[1], net.files[4], net.record = f"{net.record}.before.json", net.folder / "plan.json", net.folder / "second"
+        net.files[1], net.files[4], net.record = (
+            f"{net.record}.before.json", net.folder / "plan.json", net.folder / "second",
+        )
         net.files[4].write_text(planner("plan", *net.files[:4]))
         self.settles(net, net.apply())
         net.files[1] = old
 
     def test_old_tables_that_no_plan_can_start_from_are_repaired(self):
-        for rule, word in (({"dst": "10.0.0.0/24", "priority": 32768, "out": 2}, "a configuration can't say it"), (None, "breaks: at")):
+        for rule, word in (
+            ({"dst": "10.0.0.0/24", "priority": 32768, "out": 2}, "a configuration can't say it"), (None, "breaks: at"),
+        ):
             with self.subTest(word):
                 net = Network(self, "square")
                 net.add("s2", rule) if rule else net.switches["s2"].table.clear()
                 run = net.apply()
-                self.stops(run, "So the switches don't have the tables of", "go on with --resume --repair, which gives the switches the tables of")
+                self.stops(
+                    run, "So the switches don't have the tables of",
+                    "go on with --resume --repair, which gives the switches the tables of",
+                )
                 self.assertIn(word, run[1])
-                self.assertIn("s2: too much: priority 32768 type 0800 10.0.0.0/24 -> output 2\n" if rule else "s2: missing: priority 100 10.0.0.0/24", run[1])
+                self.assertIn(
+                    "s2: too much: priority 32768 type 0800 10.0.0.0/24 -> output 2\n"
+                    if rule
+                    else "s2: missing: priority 100 10.0.0.0/24",
+                    run[1],
+                )
                 self.assertEqual(sum(one.flow_messages + one.own_messages for one in net.switches.values()), 0)
                 self.settles(net, net.apply("--resume", "--repair"))
 
@@ -198,7 +249,10 @@ class Applying(UpdateTest):
         status, said = net.apply("--strict")
         self.assertEqual(status, 3, said)
         self.assertIn(f"planner: warning: {net.files[3]}, line 1, column ", said)
-        self.assertRegex(said.splitlines()[-1], "^stopped: there are warnings, and --strict is given; nothing was sent. Next: correct what they name")
+        self.assertRegex(
+            said.splitlines()[-1],
+            "^stopped: there are warnings, and --strict is given; nothing was sent. Next: correct what they name",
+        )
         self.assertEqual((sum(one.connections for one in net.switches.values()), net.record.exists()), (0, False))
         status, said = net.apply()
         self.assertEqual((status, said.count("thru counts for nothing")), (0, 1), said)
@@ -206,17 +260,24 @@ class Applying(UpdateTest):
         self.stops(net.apply("--quiet"), "is there already", "--resume")
 
     def test_hostile_bytes_of_a_switch_end_its_session(self):
-        noises = [("Version", bytes.fromhex("0403000800000000")), ("Length", bytes.fromhex("0103000400000000")), ("Xid 77", bytes.fromhex("011300080000004d")),
-                  ("Version", b"GET / HTTP/1.1\r\n\r\n")]
+        noises = [
+            ("Version", bytes.fromhex("0403000800000000")), ("Length", bytes.fromhex("0103000400000000")),
+            ("Xid 77", bytes.fromhex("011300080000004d")), ("Version", b"GET / HTTP/1.1\r\n\r\n"),
+        ]
         for cause, noise in noises:
             with self.subTest(cause):
                 net = Network(self, "square", only={"s1": {"noise": noise}})
-                self.stops(net.apply("--wait", "0.3"), f"the session with s1 failed: {cause}; 1 of 2 rounds are settled", "see what is at the other end of the connection with s1")
+                self.stops(
+                    net.apply("--wait", "0.3"), f"the session with s1 failed: {cause}; 1 of 2 rounds are settled",
+                    "see what is at the other end of the connection with s1",
+                )
 
     def test_hostile_connections_change_nothing(self):
         net = Network(self, "square")
         run = net.begin("--wait", "1")
-        unknown_datapath = openflow.HELLO_BYTES + openflow.message(openflow.FEATURES_REPLY, 0xFEA70000, bytes(7) + b"\xff" + bytes(16))
+        unknown_datapath = openflow.HELLO_BYTES + openflow.message(
+            openflow.FEATURES_REPLY, 0xFEA70000, bytes(7) + b"\xff" + bytes(16)
+        )
         strangers = [b"GET / HTTP/1.1\r\n\r\n", openflow.HELLO_BYTES + bytes(100), unknown_datapath, b"\1"]
         for data in strangers:
             for _ in range(100):
@@ -251,7 +312,9 @@ class Applying(UpdateTest):
             self.press(run)
         self.settles(net, (0, run.communicate(timeout=20)[1]))
         net = Network(self, "square")
-        self.stops(net.apply("--ask"), "the input with the operator's answers ended; 0 of 2 rounds are settled", "--resume")
+        self.stops(
+            net.apply("--ask"), "the input with the operator's answers ended; 0 of 2 rounds are settled", "--resume"
+        )
 
     def test_a_wrong_datapath_id_is_told(self):
         net = Network(self, "square", listen=True)

@@ -18,13 +18,14 @@ class Versions(unittest.TestCase):
     def test_a_switch_without_openflow_1_0_is_named_as_such(self):
         cases = [
             (HELLO_13, "offers OpenFlow 1.3, and not OpenFlow 1.0"),
-            (bytes.fromhex("0600001000000001" "0001000800000070"), "offers OpenFlow 1.3, OpenFlow 1.4, OpenFlow 1.5, and not OpenFlow 1.0"),
+            (
+                bytes.fromhex("06000010000000010001000800000070"),
+                "offers OpenFlow 1.3, OpenFlow 1.4, OpenFlow 1.5, and not OpenFlow 1.0",
+            ),
             (ERROR_13, "refuses OpenFlow 1.0: its highest version is OpenFlow 1.3"),
             (bytes.fromhex("0406000800000001"), "answers in OpenFlow 1.3, and not in OpenFlow 1.0"),
-            (bytes.fromhex("0600001000000001" "0001000800000012"), None),
-            (bytes.fromhex("0400000800000001"), None),
-            (openflow.HELLO_BYTES, None),
-            (b"GET / HTTP/1.1\r\n\r\n", None),
+            (bytes.fromhex("06000010000000010001000800000012"), None), (bytes.fromhex("0400000800000001"), None),
+            (openflow.HELLO_BYTES, None), (b"GET / HTTP/1.1\r\n\r\n", None),
         ]
         for piece, words in cases:
             with self.subTest(piece.hex()):
@@ -35,18 +36,27 @@ class Addresses(unittest.TestCase):
     """Where switches are said to listen, and where the controller listens."""
 
     def test_the_forms_of_an_address(self):
-        for text, wanted in (("h:6653", ("h", 6653)), ("10.0.0.1:6653", ("10.0.0.1", 6653)), ("[::1]:6653", ("::1", 6653)), ("tcp:10.0.0.1:6653", ("10.0.0.1", 6653)),
-                             ("tcp:[fe80::1]:6653", ("fe80::1", 6653)), ("6653", ("", 6653))):
+        for text, wanted in (
+            ("h:6653", ("h", 6653)), ("10.0.0.1:6653", ("10.0.0.1", 6653)), ("[::1]:6653", ("::1", 6653)),
+            ("tcp:10.0.0.1:6653", ("10.0.0.1", 6653)), ("tcp:[fe80::1]:6653", ("fe80::1", 6653)), ("6653", ("", 6653)),
+        ):
             self.assertEqual(wanted, host_and_port(text), text)
         for text in ("h", "h:", "h:x", "h:0", "h:65536", "::1:6653", "fe80::1"):
             self.assertRaises(ValueError, host_and_port, text)
         self.assertEqual(["h:1", "[::1]:1"], [address_words(one) for one in (("h", 1), ("::1", 1))])
 
     def test_what_is_no_address_of_a_switch_is_said(self):
-        for text, what, then in (("ssl:10.0.0.1:6653", "the connection is made over TCP alone, and not by ssl", "let the switch listen by `ptcp:PORT`"),
-                                 ("ptcp:6653", "ptcp:6653 is what the switch does", "write HOST:6653"), ("6653", "6653 is a port without a host", "write HOST:6653"),
-                                 ("::1:6653", "::1:6653 isn't HOST:PORT", "as [::1]:6653"), ("h:port", "h:port isn't HOST:PORT", "a port from 1 to 65535"),
-                                 ("unix:/run/s1.sock", "and not by unix", "let the switch listen")):
+        for text, what, then in (
+            (
+                "ssl:10.0.0.1:6653", "the connection is made over TCP alone, and not by ssl",
+                "let the switch listen by `ptcp:PORT`",
+            ),
+            ("ptcp:6653", "ptcp:6653 is what the switch does", "write HOST:6653"),
+            ("6653", "6653 is a port without a host", "write HOST:6653"),
+            ("::1:6653", "::1:6653 isn't HOST:PORT", "as [::1]:6653"),
+            ("h:port", "h:port isn't HOST:PORT", "a port from 1 to 65535"),
+            ("unix:/run/s1.sock", "and not by unix", "let the switch listen"),
+        ):
             with self.subTest(text), self.assertRaises(Stop) as stop:
                 listed_address(text, "switches, line 1")
             self.assertIn(f"switches, line 1: {text}", stop.exception.what)
@@ -56,7 +66,13 @@ class Addresses(unittest.TestCase):
     def test_a_switch_without_an_address_and_nowhere_to_connect_to(self):
         with self.assertRaises(Stop) as stop:
             Switches({"s1": (0xA1, ("127.0.0.1", 1)), "s2": (0xA2, None), "s3": (0xA3, None)}, None, 3600.0)
-        self.assertEqual("s2, s3 have no address in the file of switches, and no --listen is given, where switches without one connect to", stop.exception.what)
+        self.assertEqual(
+            (
+                "s2, s3 have no address in the file of switches, and no --listen is given, where switches without one"
+                " connect to"
+            ),
+            stop.exception.what,
+        )
 
     def test_it_is_said_that_it_listens_everywhere(self):
         for address, is_said in ((("", 0), True), (("0.0.0.0", 0), True), (("127.0.0.1", 0), False)):
@@ -67,7 +83,9 @@ class Addresses(unittest.TestCase):
 
     def test_a_switch_that_is_reached_by_ipv6(self):
         try:
-            with socket.create_server(("::1", 0), family=socket.AF_INET6) as server, contextlib.redirect_stderr(io.StringIO()):
+            with socket.create_server(("::1", 0), family=socket.AF_INET6) as server, contextlib.redirect_stderr(
+                io.StringIO()
+            ):
                 switches = Switches({"s1": (0xA1, listed_address(f"[::1]:{server.getsockname()[1]}", "switches"))})
                 self.addCleanup(switches.close)
                 switches.poll(0.01)
@@ -88,7 +106,9 @@ class Connecting(unittest.TestCase):
         for one in switches:
             one.start()
             self.addCleanup(one.stop)
-        found = Switches({f"s{number}": (one.datapath, one.address) for number, one in enumerate(switches)}, patience=patience)
+        found = Switches(
+            {f"s{number}": (one.datapath, one.address) for number, one in enumerate(switches)}, patience=patience
+        )
         self.addCleanup(found.close)
         return found
 
@@ -135,13 +155,17 @@ class Connecting(unittest.TestCase):
         other.start()
         self.addCleanup(other.stop)
         self.until(switches, lambda _: switches.strangers)
-        self.assertEqual(switches.why_away("s1"), " (a connection from 127.0.0.1 offers OpenFlow 1.3, and not OpenFlow 1.0)")
+        self.assertEqual(
+            switches.why_away("s1"), " (a connection from 127.0.0.1 offers OpenFlow 1.3, and not OpenFlow 1.0)"
+        )
 
     def test_echo_requests_are_answered_with_their_bytes_and_not_handed_on(self):
         one = fake_switch.FakeSwitch(0xA1, ("127.0.0.1", 0), listen=True, echo=0.05)
         switches = self.connect(5.0, one)
         found = self.until(switches, lambda _: one.echoes >= 3)
-        self.assertEqual({openflow.type_of(message) for what, _, message in found if what == "message"}, {openflow.HELLO})
+        self.assertEqual(
+            {openflow.type_of(message) for what, _, message in found if what == "message"}, {openflow.HELLO}
+        )
         self.assertIn(openflow.message(openflow.ECHO_REPLY, 0), one.received)
 
     def test_a_switch_that_takes_no_bytes_stops_nobody(self):

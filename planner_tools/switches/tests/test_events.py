@@ -11,8 +11,14 @@ from network import Network, UpdateTest
 
 class Events(UpdateTest):
     def events_of(self, net, *more):
-        words = [sys.executable, network.FRONT_END, "apply", *net.files, net.record, "--switches", net.listed, *net.where, "--json", "--wait", "0.05", *more]
-        done = subprocess.run([*map(str, words)], capture_output=True, text=True, timeout=120, check=False, env={**network.os.environ, "PLANNER": network.PLANNER})
+        words = [
+            sys.executable, network.FRONT_END, "apply", *net.files, net.record, "--switches", net.listed, *net.where,
+            "--json", "--wait", "0.05", *more,
+        ]
+        done = subprocess.run(
+            [*map(str, words)], capture_output=True, text=True, timeout=120, check=False,
+            env={**network.os.environ, "PLANNER": network.PLANNER},
+        )
         return done, [json.loads(line) for line in done.stdout.splitlines()]
 
     def test_an_update_and_its_turning(self):
@@ -21,7 +27,14 @@ class Events(UpdateTest):
         self.assertEqual((0, ""), (done.returncode, done.stderr))
         told = [one for one in events if one["event"] not in ("says", "note")]
         rule = {"dst": "10.0.0.0/24", "out": 4, "priority": 100, "switch": "s1"}
-        self.assertEqual([{"event": "started", "round": 1}, {"event": "changed", "round": 1, "change": 0, "do": "replace", "rule": rule}, {"event": "settled", "round": 1}], told[:3])
+        self.assertEqual(
+            [
+                {"event": "started", "round": 1},
+                {"event": "changed", "round": 1, "change": 0, "do": "replace", "rule": rule},
+                {"event": "settled", "round": 1},
+            ],
+            told[:3],
+        )
         self.assertEqual(["started", "changed", "settled"] * 2 + ["end"], [one["event"] for one in told])
         self.assertEqual({"event": "end", "command": "apply", "status": 0, "verdict": "done"}, events[-1])
         self.assertTrue(any(one["event"] == "says" and one["words"].startswith("done: ") for one in events))
@@ -32,8 +45,14 @@ class Events(UpdateTest):
 
     def test_nobody_reads_the_events(self):
         net = Network(self, "square")
-        words = [sys.executable, network.FRONT_END, "apply", *net.files, net.record, "--switches", net.listed, *net.where, "--json", "--wait", "0.05"]
-        run = subprocess.Popen([*map(str, words)], stdout=subprocess.PIPE, stderr=subprocess.PIPE, text=True, env={**network.os.environ, "PLANNER": network.PLANNER})
+        words = [
+            sys.executable, network.FRONT_END, "apply", *net.files, net.record, "--switches", net.listed, *net.where,
+            "--json", "--wait", "0.05",
+        ]
+        run = subprocess.Popen(
+            [*map(str, words)], stdout=subprocess.PIPE, stderr=subprocess.PIPE, text=True,
+            env={**network.os.environ, "PLANNER": network.PLANNER},
+        )
         run.stdout.readline()
         run.stdout.close()
         said = run.stderr.read()
@@ -46,10 +65,18 @@ class Events(UpdateTest):
         net = Network(self, "square")
         for name in ("topology", "new", "policy"):
             shutil.copy(network.EXAMPLES / "square" / f"{name}.json", net.folder)
-        words = [sys.executable, network.FRONT_END, "update", net.folder, "--switches", net.listed, *net.where, "--json", "--wait", "0.05"]
-        for more, status, kinds in (["--dry-run"], 0, ["plan", "end"]), ([], 1, ["plan", "stopped", "end"]), (["--yes"], 0, ["plan", *["started", "changed", "settled"] * 2, "end"]):
-            done = subprocess.run([*map(str, words), *more], capture_output=True, text=True, timeout=120, check=False, stdin=subprocess.DEVNULL,
-                                  env={**network.os.environ, "PLANNER": network.PLANNER})
+        words = [
+            sys.executable, network.FRONT_END, "update", net.folder, "--switches", net.listed, *net.where, "--json",
+            "--wait", "0.05",
+        ]
+        for more, status, kinds in (
+            (["--dry-run"], 0, ["plan", "end"]), ([], 1, ["plan", "stopped", "end"]),
+            (["--yes"], 0, ["plan", *["started", "changed", "settled"] * 2, "end"]),
+        ):
+            done = subprocess.run(
+                [*map(str, words), *more], capture_output=True, text=True, timeout=120, check=False,
+                stdin=subprocess.DEVNULL, env={**network.os.environ, "PLANNER": network.PLANNER},
+            )
             events = [json.loads(line) for line in done.stdout.splitlines()]
             self.assertEqual(status, done.returncode, done.stdout)
             self.assertEqual(kinds, [one["event"] for one in events if one["event"] not in ("says", "note", "warning")])

@@ -25,21 +25,32 @@ class Faults(UpdateTest):
 
     def changes(self, net):
         """How many messages of the update and of the script's own that change tables the switches were sent."""
-        return sum(one.flow_messages for one in net.switches.values()), sum(one.own_messages for one in net.switches.values())
+        return sum(one.flow_messages for one in net.switches.values()), sum(
+            one.own_messages for one in net.switches.values()
+        )
 
     # ---- what a switch has is compared with what it must have
 
     def test_an_emptied_switch_is_told_before_anything_is_sent_and_repaired(self):
-        for name, at, empty_at, missing, has_extended in (("square", "s3", 1, "s3: missing: priority 100 10.0.0.0/24 -> output 2", False),
-                                                          ("detour", "x", 1, "x: missing: the mark of this update", False),
-                                                          ("detour", "s", 3, "s: missing: priority 328", True)):
+        for name, at, empty_at, missing, has_extended in (
+            ("square", "s3", 1, "s3: missing: priority 100 10.0.0.0/24 -> output 2", False),
+            ("detour", "x", 1, "x: missing: the mark of this update", False),
+            ("detour", "s", 3, "s: missing: priority 328", True),
+        ):
             with self.subTest(name, at=at):
                 net = Network(self, name, only={at: {"empty_at": empty_at}}, has_extended=has_extended)
                 run = net.apply()
-                self.stops(run, f"of {at} are not as they must be, and said above", "go on with --resume --repair, which sends what is missing")
+                self.stops(
+                    run, f"of {at} are not as they must be, and said above",
+                    "go on with --resume --repair, which sends what is missing",
+                )
                 self.assertIn(f"{at}: missing: the mark of this update", run[1])
                 self.assertIn(missing, run[1])
-                self.assertRegex(run[1], r"since \d{4}-\d\d-\d\dT\d\d:\d\d:\d\dZ, when all was as it must be, packets that fit these entries may have been dropped.* at " + at)
+                self.assertRegex(
+                    run[1],
+                    r"since \d{4}-\d\d-\d\dT\d\d:\d\d:\d\dZ, when all was as it must be, packets that fit these entries"
+                    r" may have been dropped.* at " + at,
+                )
                 before = net.switches[at].flow_messages
                 if name == "square":
                     self.stops(net.apply("--resume"), "not as they must be", "--resume --repair")
@@ -81,7 +92,10 @@ class Faults(UpdateTest):
     def test_a_change_by_hand_that_was_put_right_by_hand_lets_the_update_go_on(self):
         net = Network(self, "square")
         net.add("s2", DROP_ALL)
-        self.stops(net.apply(), "1 entry of s2 is not as", "go on with --resume --repair, which gives the switches the tables of")
+        self.stops(
+            net.apply(), "1 entry of s2 is not as",
+            "go on with --resume --repair, which gives the switches the tables of",
+        )
         net.switches["s2"].table = {key: one for key, one in net.switches["s2"].table.items() if one[1] != 200}
         self.settles(net, net.apply("--resume"))
 
@@ -104,9 +118,18 @@ class Faults(UpdateTest):
         net = Network(self, "square", has_extended=True)
         net.switches["s1"].extended = [fake_switch.extended_of(*one) for one in net.switches["s1"].table.values()]
         fields = bytes.fromhex("00000602" "0800" "00001108" "0a000000" "ff00ff00")
-        net.switches["s1"].extended.append(bytes.fromhex("0048" "0000" "00000001" "00000000" "0032" "0000" "0000" "0012") + bytes(28) + fields + bytes(6))
+        net.switches["s1"].extended.append(
+            bytes.fromhex("0048000000000001000000000032000000000012") + bytes(28) + fields + bytes(6)
+        )
         run = net.apply("--repair")
-        self.stops(run, "1 entry of them no message of a plan can reach, as s1: too much: priority 50 type 0800 -> drop: it tests nw_dst with a mask", "take these away at the switch by hand")
+        self.stops(
+            run,
+            (
+                "1 entry of them no message of a plan can reach, as s1: too much: priority 50 type 0800 -> drop: it"
+                " tests nw_dst with a mask"
+            ),
+            "take these away at the switch by hand",
+        )
         self.assertEqual(self.changes(net), (0, 0))
 
     # ---- one controller
@@ -174,7 +197,10 @@ class Faults(UpdateTest):
         net.apply_until("round 5 starts")
         self.another(net)
         self.stops(net.apply(), "another update is at work", "--resume --take-over takes its mark away")
-        self.stops(net.apply("--resume", "--take-over"), "So the switches don't have the tables of", "No plan can start from what they have: a configuration can't say it")
+        self.stops(
+            net.apply("--resume", "--take-over"), "So the switches don't have the tables of",
+            "No plan can start from what they have: a configuration can't say it",
+        )
         self.settles(net, net.apply("--resume", "--take-over", "--repair"))
 
     def test_a_switch_that_refuses_the_mark_is_named(self):
@@ -205,26 +231,39 @@ class Faults(UpdateTest):
         net = Network(self, "detour")
         shell = ["sh", "-c", 'ulimit -f 6; exec "$@"', "sh"]       # in blocks of 512 bytes
         run = net.apply(before=shell)
-        self.stops(run, f"the record {net.record} can't be written: File too large", f"make room on the disk of {net.record}; then go on with --resume")
+        self.stops(
+            run, f"the record {net.record} can't be written: File too large",
+            f"make room on the disk of {net.record}; then go on with --resume",
+        )
         self.settles(net, net.apply("--resume"))
 
     # ---- words
 
     def test_a_refusal_of_import_names_the_switch_and_the_entry(self):
         net = Network(self, "square")
-        net.switches["s3"].entries = [fake_switch.entry_of(fake_switch.match_of(DROP_ALL), 100, fake_switch.actions_of({"out": 9}))]
+        net.switches["s3"].entries = [
+            fake_switch.entry_of(fake_switch.match_of(DROP_ALL), 100, fake_switch.actions_of({"out": 9}))
+        ]
         text = net.collect().stdout
         (net.folder / "replies").write_text(text)
         said = planner("import", net.files[0], net.folder / "replies")
         self.assertEqual(said, "bad replies: 7 BadPort at 2\n")
-        self.assertEqual(collect.entry_at(net.folder / "replies", said), "an entry of the switch s3: priority 100 type 0800 10.0.0.0/24 -> output 9")
-        self.assertEqual(collect.entry_at(net.folder / "replies", "bad replies: 2 BadMessage at 4\n"), "line 4, of the switch s2")
+        self.assertEqual(
+            collect.entry_at(net.folder / "replies", said),
+            "an entry of the switch s3: priority 100 type 0800 10.0.0.0/24 -> output 9",
+        )
+        self.assertEqual(
+            collect.entry_at(net.folder / "replies", "bad replies: 2 BadMessage at 4\n"), "line 4, of the switch s2"
+        )
         self.assertIsNone(collect.entry_at(net.folder / "replies", "bad replies: 9 OverCapacity at 0\n"))
 
     def test_a_resume_that_fails_says_what_the_record_has(self):
         net = Network(self, "square")
         net.apply_until("round 2 starts")
-        self.stops(net.apply("--resume", program="/bin/false"), "rounds were started by the record, and nothing was sent in this run", "--resume")
+        self.stops(
+            net.apply("--resume", program="/bin/false"),
+            "rounds were started by the record, and nothing was sent in this run", "--resume",
+        )
 
     def test_a_switch_of_another_version_is_named(self):
         net = Network(self, "square", listen=True, only={"s2": {"hello": HELLO_13}})

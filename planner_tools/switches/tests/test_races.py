@@ -1,5 +1,6 @@
-"""Tests of a switch that loses its table and its connection while a program runs that compares, and comes back at once: what it answered on the older
-connection must not count. The program is held until the switch is back, so each of these races is certain. PLANNER names the program."""
+"""Tests of a switch that loses its table and its connection while a program runs that compares, and comes back at once:
+what it answered on the older connection must not count. The program is held until the switch is back, so each of these
+races is certain. PLANNER names the program."""
 import os
 import stat
 import sys
@@ -36,12 +37,16 @@ def until(is_so):
 
 class Races(UpdateTest):
     def racing(self, net, at, held, name, *more):
-        """A run during which the switch `name` is emptied and comes back, while the run number `at` of a held command waits. Its status and what it said,
-        or None where the update came to its end without so many runs."""
+        """A run during which the switch `name` is emptied and comes back, while the run number `at` of a held command
+        waits. Its status and what it said, or None where the update came to its end without so many runs."""
         folder = net.folder / f"held-{at}"
         folder.mkdir()
         script = folder / "program"
-        script.write_text(HOLDING.format(python=sys.executable, held=held, folder=str(folder), seconds=SECONDS, at=at, planner=PLANNER))
+        script.write_text(
+            HOLDING.format(
+                python=sys.executable, held=held, folder=str(folder), seconds=SECONDS, at=at, planner=PLANNER
+            )
+        )
         os.chmod(script, stat.S_IRWXU)
         switch, run = net.switches[name], net.begin(*more, program=str(script))
         self.assertTrue(until(lambda: (folder / f"run-{at}").exists() or run.poll() is not None))
@@ -71,7 +76,8 @@ class Races(UpdateTest):
     def test_in_each_comparison_with_what_the_program_says_must_be_there(self):
         for at in range(1, 100):
             with self.subTest(at=at):
-                net = self.network("s3", only={"s3": {"close_at": 1}})        # it is also compared when it comes back in the middle of a round
+                # it is also compared when it comes back in the middle of a round
+                net = self.network("s3", only={"s3": {"close_at": 1}})
                 run = self.racing(net, at, ("tables",), "s3")
                 if run is None:
                     self.assertGreater(at, 4)      # at first, before each round, when it is back, at the end

@@ -58,7 +58,10 @@ class Recording(unittest.TestCase):
 
     def test_a_record_is_taken_up_as_it_was(self):
         record = self.taken_up(self.written())
-        self.assertEqual((record.opened, record.take_unfollowed(), record.starts), ({"s1"}, [f"feed s1 {openflow.HELLO_BYTES.hex()}", "start", f"feed s1 {REPLY.hex()}"], 1))
+        self.assertEqual(
+            (record.opened, record.take_unfollowed(), record.starts),
+            ({"s1"}, [f"feed s1 {openflow.HELLO_BYTES.hex()}", "start", f"feed s1 {REPLY.hex()}"], 1),
+        )
         record.give("start")
         record.file.close()
         self.assertEqual(self.record(resume=True).starts, 2)
@@ -68,15 +71,24 @@ class Recording(unittest.TestCase):
         other = good[5].replace("start", "# tart")
         cases = [
             (good[:5] + [other] + good[6:], "line 6 of the record", "was changed", 4),
-            (good[:4] + [good[4].replace("#3 ", "#3 0")[:-2] + "\n"] + good[5:], "line 6 of the record", "was changed", 4),
+            (
+                good[:4] + [good[4].replace("#3 ", "#3 0")[:-2] + "\n"] + good[5:], "line 6 of the record",
+                "was changed", 4,
+            ),
             (good[:4] + good[6:], "line 6 of the record", "1 lines of the record are missing before it", 4),
             (good[:2] + good[8:], "line 4 of the record", "3 lines of the record are missing before it", 2),
             (good[:5] + good[6:], "line 6 of the record", "was changed", 4),
             (good + ["start\n"], "line 11 of the record", "was added", 10),
             (good[:6] + ["start\n"] + good[6:], "line 7 of the record", "was added", 6),
-            (good[:6] + good[4:6] + good[6:], "line 8 of the record", "was added: the record has had one of its number", 6),
+            (
+                good[:6] + good[4:6] + good[6:], "line 8 of the record",
+                "was added: the record has had one of its number", 6,
+            ),
             (good + ["#6 0123456789abcdef\n", "start\n"], "line 12 of the record", "was changed", 10),
-            (good[:4] + good[6:8] + good[4:6] + good[8:], "line 6 of the record", "1 lines of the record are missing before it", 4),
+            (
+                good[:4] + good[6:8] + good[4:6] + good[8:], "line 6 of the record",
+                "1 lines of the record are missing before it", 4,
+            ),
         ]
         for lines, where, what, kept in cases:
             with self.subTest(where, what=what):
@@ -93,8 +105,11 @@ class Recording(unittest.TestCase):
 
     def test_a_record_of_nothing_or_of_other_files_is_told_as_such(self):
         empty = "has no whole line: nothing was begun with it"
-        for text, what, then in (("", empty, "without --resume"), ("#1 0123456789abcdef\n# update 02", empty, "without --resume"), ("start\n", "isn't the record of an update", "that `planner apply` wrote"),
-                                 ("what the operator wrote", "isn't the record of an update", "that `planner apply` wrote")):
+        for text, what, then in (
+            ("", empty, "without --resume"), ("#1 0123456789abcdef\n# update 02", empty, "without --resume"),
+            ("start\n", "isn't the record of an update", "that `planner apply` wrote"),
+            ("what the operator wrote", "isn't the record of an update", "that `planner apply` wrote"),
+        ):
             self.is_refused([text], what, then)
         os.unlink(self.path)
         lines = self.written()
@@ -126,7 +141,9 @@ class Recording(unittest.TestCase):
 
     def test_the_mark_is_on_the_switches_until_it_is_taken_away(self):
         record = self.record()
-        for words, is_marked in (("the mark of the update is put on the switches", True), ("the mark of the update is taken away", False)):
+        for words, is_marked in (
+            ("the mark of the update is put on the switches", True), ("the mark of the update is taken away", False),
+        ):
             record.remark(words)
             record.file.close()
             record = self.record(resume=True)
@@ -149,8 +166,15 @@ try:
 except Stop as stop:
     pass
 """
-        run = subprocess.run([sys.executable, "-c", code.replace("record.size + 100", "0").replace("record =", "resource.setrlimit(resource.RLIMIT_FSIZE, (0, 0)); record =")],
-                             capture_output=True, text=True, check=False)
+        run = subprocess.run(
+            [
+                sys.executable, "-c",
+                code.replace("record.size + 100", "0").replace(
+                    "record =", "resource.setrlimit(resource.RLIMIT_FSIZE, (0, 0)); record ="
+                ),
+            ],
+            capture_output=True, text=True, check=False,
+        )
         self.assertIn(f"the record {self.path} can't be written: File too large", run.stderr)
         self.assertFalse(os.path.exists(self.path))
         run = subprocess.run([sys.executable, "-c", code], capture_output=True, text=True, check=True)

@@ -1,4 +1,5 @@
-"""Tests of turning back, of lost connections and of `serve` itself: whole updates of fake switches over the loopback. PLANNER names the program."""
+"""Tests of turning back, of lost connections and of `serve` itself: whole updates of fake switches over the loopback.
+PLANNER names the program."""
 import os
 import re
 import signal
@@ -9,7 +10,6 @@ import unittest
 
 from network import LONGEST, PLANNER, Network, UpdateTest
 from planner_tools.switches import openflow
-from planner_tools.switches.served import Core
 
 # The lines that a core of the older form had, beside comments.
 OLDER = re.compile(r"(start|feed [^ ]+ [0-9a-f]+)$")
@@ -29,26 +29,40 @@ with open({died!r}, "w"), subprocess.Popen([{planner!r}, *sys.argv[1:]], stdout=
 
 def lines_of(net):
     """The lines of a record that aren't comments, without what stands behind a switch."""
-    return [" ".join(line.split()[:2]) if line.startswith("feed") else line for line in net.record.read_text().splitlines() if not line.startswith("#")]
+    return [
+        " ".join(line.split()[:2]) if line.startswith("feed") else line
+        for line in net.record.read_text().splitlines()
+        if not line.startswith("#")
+    ]
 
 
 class Turning(UpdateTest):
     def stopped_in_round(self, net, number, *more):
         """Ends a run by a key while the round runs: its status and what it said."""
         run, until = net.begin(*more), time.monotonic() + LONGEST
-        while time.monotonic() < until and run.poll() is None and not (net.record.exists() and f"round {number} starts" in net.record.read_text()):
+        while (
+            time.monotonic() < until
+            and run.poll() is None
+            and not (net.record.exists() and f"round {number} starts" in net.record.read_text())
+        ):
             time.sleep(0.01)
         time.sleep(0.1)
         run.send_signal(signal.SIGINT)
         return run.wait(LONGEST), run.stderr.read()
 
     def test_a_round_that_runs_is_turned_back(self):
-        for name, number, slow, of in (("square", 2, "s3", 2), ("square", 1, "s1", 2), ("detour", 1, "w", 8), ("detour", 6, "s", 8)):
+        for name, number, slow, of in (
+            ("square", 2, "s3", 2), ("square", 1, "s1", 2), ("detour", 1, "w", 8), ("detour", 6, "s", 8),
+        ):
             with self.subTest(name, number=number):
                 net = Network(self, name, only={slow: {"delay": 0.6}})
                 net.switches[slow].delay = 0.3
                 stopped = self.stopped_in_round(net, number)
-                self.stops(stopped, f"the operator ended it; {number - 1} of {of} rounds are settled, round {number} is running", "--back in its place turns the update back")
+                self.stops(
+                    stopped,
+                    f"the operator ended it; {number - 1} of {of} rounds are settled, round {number} is running",
+                    "--back in its place turns the update back",
+                )
                 for one in net.switches.values():
                     one.delay = 0.0
                 run = net.apply("--back")
@@ -56,7 +70,10 @@ class Turning(UpdateTest):
                 self.assertIn(f"round {number} is turned back", run[1])
                 told = re.findall(rf"round (\d+) of {of} is undone", run[1])
                 self.assertEqual(told, [str(it) for it in range(number, 0, -1)])
-                self.assertIn(f"no round is settled any more, {number - 1} were carried out and {number} undone", run[1].splitlines()[-1])
+                self.assertIn(
+                    f"no round is settled any more, {number - 1} were carried out and {number} undone",
+                    run[1].splitlines()[-1],
+                )
                 self.assertEqual(lines_of(net).count("back"), number)
                 self.assertEqual(text.count("\nback\n"), number - 1)
 
@@ -67,7 +84,10 @@ class Turning(UpdateTest):
                 self.settles(net, net.apply())
                 run = net.apply("--back", "--wait", "0.1")
                 self.is_back(net, run)
-                waits = [float(it) for it in re.findall(r"round \d+ is undone, after a wait of ([0-9.]+) s", net.record.read_text())]
+                waits = [
+                    float(it)
+                    for it in re.findall(r"round \d+ is undone, after a wait of ([0-9.]+) s", net.record.read_text())
+                ]
                 self.assertTrue(waits and all(0.1 <= it < 10 for it in waits), waits)
                 self.settles(net, net.apply("--resume"))
 
@@ -86,7 +106,9 @@ class Turning(UpdateTest):
         self.assertEqual(lines_of(net).count("back"), lines)
 
     def test_an_update_with_a_failed_session_is_turned_back(self):
-        for name, more in (("square", {"s3": {"error_at": 1}}), ("detour", {"d": {"error_at": 3}}), ("detour", {"w": {"error_at": 1}})):
+        for name, more in (
+            ("square", {"s3": {"error_at": 1}}), ("detour", {"d": {"error_at": 3}}), ("detour", {"w": {"error_at": 1}}),
+        ):
             with self.subTest(name, more=more):
                 net = Network(self, name, only=more)
                 self.stops(net.apply(), "failed: Error 3 0", "--back in its place turns the update back")
@@ -95,8 +117,14 @@ class Turning(UpdateTest):
     def test_a_session_that_fails_while_a_round_is_undone(self):
         net = Network(self, "square", only={"s1": {"error_at": 2}})
         self.settles(net, net.apply())
-        self.stops(net.apply("--back"), "the session with s1 failed: Error 3 0 (flow message failed: all tables full); it is about: replace priority 100 10.0.0.0/24; "
-                   "1 of 2 rounds are settled (2 were carried out and 1 undone)".replace("1 of 2", "0 of 2"), "go on with --back")
+        self.stops(
+            net.apply("--back"),
+            "the session with s1 failed: Error 3 0 (flow message failed: all tables full); it is about: replace"
+            " priority 100 10.0.0.0/24; 1 of 2 rounds are settled (2 were carried out and 1 undone)".replace(
+                "1 of 2", "0 of 2"
+            ),
+            "go on with --back",
+        )
         self.is_back(net, net.apply("--back"))
 
     def test_a_turned_update_that_is_killed_goes_on_either_way(self):
@@ -141,7 +169,9 @@ class Turning(UpdateTest):
         self.assertGreaterEqual(time.monotonic() - begun, 3.0)       # two rounds, and once for the connection
 
     def test_an_answer_on_the_new_connection_isn_t_one_of_the_old_session(self):
-        net = Network(self, "square", only={"s3": {"close_at": 1, "greeting": openflow.message(openflow.BARRIER_REPLY, 4)}})
+        net = Network(
+            self, "square", only={"s3": {"close_at": 1, "greeting": openflow.message(openflow.BARRIER_REPLY, 4)}}
+        )
         self.stops(net.apply(), "the session with s3 failed: Xid 4", "--resume")
         self.stops(net.apply("--back"), "the session with s3 failed: Xid 4", "--back")
         net.switches["s3"].greeting = b""
@@ -163,7 +193,11 @@ class Turning(UpdateTest):
         script = net.folder / "dying"
         script.write_text(DYING.format(python=sys.executable, died=str(net.folder / "died"), planner=PLANNER))
         os.chmod(script, stat.S_IRWXU)
-        self.stops(net.apply(program=str(script)), "`planner serve` ended with status 9; 0 of 2 rounds are settled, round 1 is running", "then go on with --resume")
+        self.stops(
+            net.apply(program=str(script)),
+            "`planner serve` ended with status 9; 0 of 2 rounds are settled, round 1 is running",
+            "then go on with --resume",
+        )
         self.settles(net, net.apply("--resume"))
 
     def test_a_record_of_the_older_form_is_gone_on_with(self):
@@ -171,34 +205,11 @@ class Turning(UpdateTest):
             with self.subTest(more):
                 net = Network(self, "square", only={"s3": {"is_silent": True}})
                 self.stops(net.apply("--patience", "0.5"), "round 2 is running", "--resume")
-                self.assertTrue(all(OLDER.match(line) for line in net.record.read_text().splitlines() if not line.startswith("#")))
+                self.assertTrue(
+                    all(OLDER.match(line) for line in net.record.read_text().splitlines() if not line.startswith("#"))
+                )
                 net.switches["s3"].is_silent = False
                 end(net, net.apply(*more))
-
-
-class Cores(unittest.TestCase):
-    def test_a_core_tells_what_is_in_force_and_who_owes_what(self):
-        core = Core()
-        flow, request = openflow.message(openflow.FLOW_MOD, 1, bytes(64)).hex(), openflow.message(openflow.BARRIER_REQUEST, 2).hex()
-        hello, reply = openflow.HELLO_BYTES.hex(), openflow.message(openflow.BARRIER_REPLY, 2).hex()
-        steps = [
-            ("", [f"send s1 {hello}", "ok settled 0 of 2"], (False, False, 0, set(), "")),
-            ("start", ["no open s1"], (False, False, 0, set(), "")),
-            (f"feed s1 {hello}", ["ok settled 0 of 2"], (False, False, 0, set(), "")),
-            ("start", ["start", f"send s1 {flow}", f"send s1 {request}", "ok running 1 of 2"], (True, False, 0, {"s1"}, "start\n")),
-            (f"feed s1 {reply}", ["change 0", "settle", "ok settled 1 of 2"], (False, False, 1, set(), "start\nchange 0\nsettle\n")),
-            ("back", ["back", f"send s1 {request}", "ok running 1 of 2"], (True, True, 0, {"s1"}, "start\n")),
-            ("feed s1 0100000c000000020003", ["failed s1 Error 3 0", "ok running 1 of 2"], (True, True, 0, {"s1"}, "start\n")),
-            ("reopen s1", [f"send s1 {hello}", "ok running 1 of 2"], (True, True, 0, set(), "start\n")),
-            (f"feed s1 {hello}", [f"send s1 {request}", "ok running 1 of 2"], (True, True, 0, {"s1"}, "start\n")),
-            (f"feed s1 {reply}", ["undo 0", "settle", "ok settled 0 of 2"], (False, True, 0, set(), "")),
-        ]
-        for line, block, expected in steps:
-            with self.subTest(line):
-                messages = core.take(line, block)
-                self.assertEqual(messages, [(it.split()[1], bytes.fromhex(it.split()[2])) for it in block if it.startswith("send ")])
-                self.assertEqual((core.is_running, core.is_back, core.settled, core.owing(), core.schedule()), expected)
-        self.assertEqual((core.carried_out, core.undone, core.open), (1, 1, {"s1"}))
 
 
 if __name__ == "__main__":

@@ -1,4 +1,5 @@
-"""Tests of `planner update`: whole updates of switches in Python by one command, and a refusal at each step. PLANNER names the program."""
+"""Tests of `planner update`: whole updates of switches in Python by one command, and a refusal at each step. PLANNER
+names the program."""
 import json
 import os
 import pathlib
@@ -34,17 +35,26 @@ class UpdateCommand(unittest.TestCase):
 
     def words(self, net, *more):
         wait = [] if {"--wait", "--ask"} & set(more) else ["--wait", "0.05"]
-        return [sys.executable, str(FRONT_END), "update", str(net.wanted), "--switches", str(net.listed), *map(str, net.where), *wait, *more]
+        return [
+            sys.executable, str(FRONT_END), "update", str(net.wanted), "--switches", str(net.listed),
+            *map(str, net.where), *wait, *more,
+        ]
 
     def run_it(self, net, *more):
-        done = subprocess.run(self.words(net, *more), capture_output=True, text=True, timeout=LONGEST, stdin=subprocess.DEVNULL, check=False, env={**os.environ, "PLANNER": PLANNER})
+        done = subprocess.run(
+            self.words(net, *more), capture_output=True, text=True, timeout=LONGEST, stdin=subprocess.DEVNULL,
+            check=False, env={**os.environ, "PLANNER": PLANNER},
+        )
         self.assertEqual(done.stdout, "")
         return done.returncode, done.stderr
 
     def answering(self, net, answer, *more):
         """A run that is asked on a terminal."""
         ours, theirs = pty.openpty()
-        run = subprocess.Popen(self.words(net, *more), stdin=theirs, stderr=subprocess.PIPE, text=True, env={**os.environ, "PLANNER": PLANNER})
+        run = subprocess.Popen(
+            self.words(net, *more), stdin=theirs, stderr=subprocess.PIPE, text=True,
+            env={**os.environ, "PLANNER": PLANNER},
+        )
         os.close(theirs)
         os.write(ours, f"{answer}\n".encode())
         said = run.communicate(timeout=LONGEST)[1]
@@ -71,7 +81,10 @@ class UpdateCommand(unittest.TestCase):
 
     def carry_out(self, words):
         """Does a line that was said."""
-        done = subprocess.run([sys.executable, str(FRONT_END), *shlex.split(words)], capture_output=True, text=True, timeout=LONGEST, check=False, env={**os.environ, "PLANNER": PLANNER})
+        done = subprocess.run(
+            [sys.executable, str(FRONT_END), *shlex.split(words)], capture_output=True, text=True, timeout=LONGEST,
+            check=False, env={**os.environ, "PLANNER": PLANNER},
+        )
         self.assertEqual(done.returncode, 0, done.stderr)
 
 
@@ -86,10 +99,15 @@ class Updating(UpdateCommand):
         self.assertIn("an ordered plan (KIND `ordered`) would have 2 rounds, 2 changes at 2 of 4 switches", said)
         self.nothing_was_sent(net)
         net = self.network("detour")
-        self.stops(net, self.run_it(net, "--yes", "--ordered"), 1, "step 3 of 5, plan", "no ordered plan", "without --ordered a two-phase plan is made")
+        self.stops(
+            net, self.run_it(net, "--yes", "--ordered"), 1, "step 3 of 5, plan", "no ordered plan",
+            "without --ordered a two-phase plan is made",
+        )
 
     def test_both_examples_by_one_command(self):
-        for name, words in (("square", "2 rounds with 2 changes at 2 of 4 switches: 2 replaced"), ("detour", "8 rounds")):
+        for name, words in (
+            ("square", "2 rounds with 2 changes at 2 of 4 switches: 2 replaced"), ("detour", "8 rounds"),
+        ):
             with self.subTest(name):
                 net = self.network(name)
                 status, said = self.run_it(net, "--yes")
@@ -98,8 +116,14 @@ class Updating(UpdateCommand):
                 self.assertTrue(net.has(net.wanted / "new.json"))
                 made = net.wanted / "update-1"
                 self.assertEqual({"replies", "old.json", "plan.json", "record"} - set(os.listdir(made)), set())
-                files = [net.wanted / "topology.json", made / "old.json", net.wanted / "new.json", net.wanted / "policy.json", made / "plan.json", made / "record"]
-                done = subprocess.run([PLANNER, "serve", *map(str, files[:-1])], input=files[-1].read_text(), capture_output=True, text=True, timeout=LONGEST, check=False)
+                files = [
+                    net.wanted / "topology.json", made / "old.json", net.wanted / "new.json",
+                    net.wanted / "policy.json", made / "plan.json", made / "record",
+                ]
+                done = subprocess.run(
+                    [PLANNER, "serve", *map(str, files[:-1])], input=files[-1].read_text(), capture_output=True,
+                    text=True, timeout=LONGEST, check=False,
+                )
                 self.assertRegex(done.stdout, r"\nok settled (\d+) of \1\n$")
                 status, said = self.run_it(net, "--yes")
                 self.assertEqual(status, 0)
@@ -110,17 +134,25 @@ class Updating(UpdateCommand):
         status, said = self.run_it(net, "--dry-run")
         self.assertEqual(status, 0, said)
         self.assertIn("accepted: ordered, 2 rounds, 12 classes", said)
-        self.assertIn("12 classes of packets: 0 arrive no more, 0 arrive now and didn't, 3 go another way, 9 as before\n", said)
-        self.assertIn("    now s1 s4, leaves at s4:3\n    s1: 10.0.0.0/24, priority 100, to s4 (port 4), was s2 (port 2)\n", said)
+        self.assertIn(
+            "12 classes of packets: 0 arrive no more, 0 arrive now and didn't, 3 go another way, 9 as before\n", said
+        )
+        self.assertIn(
+            "    now s1 s4, leaves at s4:3\n    s1: 10.0.0.0/24, priority 100, to s4 (port 4), was s2 (port 2)\n", said
+        )
         self.assertIn("a dry run ends here: nothing was sent", said)
         self.nothing_was_sent(net)
         line = re.search(r"it is carried out by: planner (.*)", said)[1]
-        done = subprocess.run([sys.executable, str(FRONT_END), *shlex.split(line)], capture_output=True, text=True, timeout=LONGEST, check=False, env={**os.environ, "PLANNER": PLANNER})
+        done = subprocess.run(
+            [sys.executable, str(FRONT_END), *shlex.split(line)], capture_output=True, text=True, timeout=LONGEST,
+            check=False, env={**os.environ, "PLANNER": PLANNER},
+        )
         self.assertEqual(done.returncode, 0, done.stderr)
         self.assertTrue(net.has(net.wanted / "new.json"))
 
     def test_what_becomes_of_packets_outside_of_the_model_is_said_before_the_question(self):
-        """In two phases ingress entries drop what the miss entry sent to the controller, and packets of undeclared VLANs."""
+        """In two phases ingress entries drop what the miss entry sent to the controller, and packets of undeclared
+        VLANs."""
         net = self.network("detour")
         match = struct.pack("!I36x", 0x003820FF)
         net.switches["s"].table[fake_switch.key_of(match, 0)] = [match, 0, bytes.fromhex("00000008fffd0000"), 0]
@@ -129,16 +161,47 @@ class Updating(UpdateCommand):
         status, said = self.run_it(net, "--dry-run")
         self.assertEqual(status, 0, said)
         plan = json.loads((net.wanted / "update-1" / "plan.json").read_text())
-        rounds = [number for number, changes in enumerate(plan["rounds"], 1) for _, at in changes if plan["rules"][at]["out"] == "drop" and plan["rules"][at]["switch"] == "s" and "in_port" in plan["rules"][at]]
-        self.assertIn(f"Note: in rounds {min(rounds)} to {max(rounds)} s drops IP packets of hosts that no rule takes, as of DHCP, which it sends to the controller now.\n", said)
-        self.assertIn(f"Note: in rounds {min(rounds)} to {max(rounds)} s drops IP packets of hosts with VLANs that the topology doesn't declare, which rules for any VLAN take now.\n", said)
-        self.assertRegex(said, r"Note: entries have cookies \(\d+ at s\): one that the plan deletes, and that is put back where the update is turned back, has the cookie 0 then\.")
+        rounds = [
+            number
+            for number, changes in enumerate(plan["rounds"], 1)
+            for _, at in changes
+            if plan["rules"][at]["out"] == "drop"
+            and plan["rules"][at]["switch"] == "s"
+            and "in_port" in plan["rules"][at]
+        ]
+        self.assertIn(
+            (
+                f"Note: in rounds {min(rounds)} to {max(rounds)} s drops IP packets of hosts that no rule takes, as of"
+                " DHCP, which it sends to the controller now.\n"
+            ),
+            said,
+        )
+        self.assertIn(
+            (
+                f"Note: in rounds {min(rounds)} to {max(rounds)} s drops IP packets of hosts with VLANs that the"
+                " topology doesn't declare, which rules for any VLAN take now.\n"
+            ),
+            said,
+        )
+        self.assertRegex(
+            said,
+            (
+                r"Note: entries have cookies \(\d+ at s\): one that the plan deletes, and that is put back where the"
+                r" update is turned back, has the cookie 0 then\."
+            ),
+        )
         self.nothing_was_sent(net)
 
     def test_an_ordered_plan_has_nothing_of_that(self):
         rule = {"switch": "s1", "priority": 5, "dst": "0.0.0.0/0", "out": "drop"}
         plan = {"kind": "ordered", "rules": [rule], "rounds": [[["delete", 0]]]}
-        self.assertEqual([], meanwhile.meanwhile(plan, [rule], "# s1: what no entry takes is sent to the controller\n# s2: 4 of its entries have a cookie\n"))
+        self.assertEqual(
+            [],
+            meanwhile.meanwhile(
+                plan, [rule],
+                "# s1: what no entry takes is sent to the controller\n# s2: 4 of its entries have a cookie\n",
+            ),
+        )
         self.assertEqual(1, len(meanwhile.meanwhile(plan, [rule], "# s1: 4 of its entries have a cookie\n")))
 
     def test_the_question(self):
@@ -154,8 +217,14 @@ class Updating(UpdateCommand):
     def test_the_question_shows_what_show_shows(self):
         net = self.network("detour")
         said = self.answering(net, "n")[1]
-        shown = subprocess.run([sys.executable, str(FRONT_END), "show", *(str(net.wanted / name) for name in ("topology.json", "update-1/old.json", "update-1/plan.json")),
-                                "--wait", "0.05"], capture_output=True, text=True, timeout=LONGEST, check=True, env={**os.environ, "PLANNER": PLANNER}).stdout
+        shown = subprocess.run(
+            [
+                sys.executable, str(FRONT_END), "show",
+                *(str(net.wanted / name) for name in ("topology.json", "update-1/old.json", "update-1/plan.json")),
+                "--wait", "0.05",
+            ],
+            capture_output=True, text=True, timeout=LONGEST, check=True, env={**os.environ, "PLANNER": PLANNER},
+        ).stdout
         self.assertIn("\nround 8: ", shown)
         self.assertIn(shown, said)
         self.assertLess(said.index(shown), said.index("Carry it out? [y/N]"))
@@ -168,7 +237,10 @@ class Updating(UpdateCommand):
 
     def misspell(self, net):
         demands = json.loads((net.wanted / "policy.json").read_text())["demands"]
-        self.change(net, "policy", demands=[{"thru" if word == "through" else word: it for word, it in one.items()} for one in demands])
+        self.change(
+            net, "policy",
+            demands=[{"thru" if word == "through" else word: it for word, it in one.items()} for one in demands],
+        )
 
     def test_what_the_commands_warn_of_is_warned_of_before_the_question(self):
         net = self.network("detour")
@@ -179,11 +251,20 @@ class Updating(UpdateCommand):
         self.assertIn("thru counts for nothing: no member has this name; did you mean `through`?", said)
         self.assertLess(said.index(warning), said.index("step 1: "))
         self.assertIn("There is 1 warning: see the first lines.\nCarry it out? [y/N]", said)
-        checked = subprocess.run([sys.executable, str(FRONT_END), "check", *(str(net.wanted / f"{name}.json") for name in ("topology", "update-1/old", "new", "policy", "update-1/plan"))],
-                                 capture_output=True, text=True, timeout=LONGEST, check=True, env={**os.environ, "PLANNER": PLANNER}).stderr
+        checked = subprocess.run(
+            [
+                sys.executable, str(FRONT_END), "check",
+                *(
+                    str(net.wanted / f"{name}.json")
+                    for name in ("topology", "update-1/old", "new", "policy", "update-1/plan")
+                ),
+            ],
+            capture_output=True, text=True, timeout=LONGEST, check=True, env={**os.environ, "PLANNER": PLANNER},
+        ).stderr
         warnings = [line for line in checked.splitlines() if line.startswith("planner: warning: ")]
         self.assertTrue(warnings)
-        self.assertEqual([line for line in said.splitlines() if line.startswith("planner: warning: ")], warnings)       # each of them, and once
+        # each of them, and once
+        self.assertEqual([line for line in said.splitlines() if line.startswith("planner: warning: ")], warnings)
 
     def test_strict_ends_it_at_a_warning_and_quiet_says_none(self):
         net = self.network()
@@ -199,7 +280,9 @@ class Updating(UpdateCommand):
 
     def test_a_refusal_is_said_with_file_line_and_column(self):
         net = self.network()
-        (net.wanted / "new.json").write_text('{"rules": [\n  {"switch": "s1", "priority": 0, "dst": "10.0.0.0/24", "out": 2}]}')
+        (net.wanted / "new.json").write_text(
+            '{"rules": [\n  {"switch": "s1", "priority": 0, "dst": "10.0.0.0/24", "out": 2}]}'
+        )
         run = self.run_it(net, "--yes")
         self.assertIn(f"planner: {net.wanted}/new.json, line 2, column 32: rules[0].priority is 0: ", run[1])
         self.stops(net, run, 3, "step 3 of 5, plan", "bad new", "correct that file")
@@ -210,13 +293,18 @@ class Updating(UpdateCommand):
 
     def test_a_run_that_fails_at_its_first_step_leaves_no_folder(self):
         net = self.network(only={"s3": {"late": 60.0}})
-        self.stops(net, self.run_it(net, "--yes", "--patience", "0.5"), 1, "step 1 of 5, collect", "the lines above say why")
+        self.stops(
+            net, self.run_it(net, "--yes", "--patience", "0.5"), 1, "step 1 of 5, collect", "the lines above say why"
+        )
         self.assertEqual(sorted(os.listdir(net.wanted)), ["new.json", "policy.json", "topology.json"])
 
     def test_files_that_are_not_there(self):
         net = self.network()
         (net.wanted / "policy.json").unlink()
-        self.stops(net, self.run_it(net, "--yes"), 6, "the files", "policy.json can't be read", "has to have topology.json, new.json, policy.json")
+        self.stops(
+            net, self.run_it(net, "--yes"), 6, "the files", "policy.json can't be read",
+            "has to have topology.json, new.json, policy.json",
+        )
         (net.wanted / "topology.json").write_text("[]")
         (net.wanted / "policy.json").write_text("{}")
         self.stops(net, self.run_it(net, "--yes"), 3, "the files", "is no topology")
@@ -235,13 +323,22 @@ class Updating(UpdateCommand):
         net = self.network()
         from test_collect import entry
         net.switches["s1"].entries = [entry(actions="00000008004d0000")]
-        self.stops(net, self.run_it(net, "--yes"), 3, "step 2 of 5, import", "bad replies: 7 BadPort at 0", "change at the switches")
+        self.stops(
+            net, self.run_it(net, "--yes"), 3, "step 2 of 5, import", "bad replies: 7 BadPort at 0",
+            "change at the switches",
+        )
 
     def test_what_no_plan_is_made_for_stops_at_plan(self):
         for change, status, what, then in (
-                (lambda net: self.change(net, "policy", demands=[{"from": "s4:3", "dst": "10.0.0.0/24", "deliver": True}]), 1, "refused: 1 EndBreaks old", "update-1/old.json"),
-                (lambda net: self.change(net, "new", rules=[]), 1, "refused: 1 EndBreaks new", "wanted/new.json"),
-                (lambda net: self.change(net, "new", rules=[{}]), 3, "bad new", "correct that file")):
+            (
+                lambda net: self.change(
+                    net, "policy", demands=[{"from": "s4:3", "dst": "10.0.0.0/24", "deliver": True}]
+                ),
+                1, "refused: 1 EndBreaks old", "update-1/old.json",
+            ),
+            (lambda net: self.change(net, "new", rules=[]), 1, "refused: 1 EndBreaks new", "wanted/new.json"),
+            (lambda net: self.change(net, "new", rules=[{}]), 3, "bad new", "correct that file"),
+        ):
             net = self.network()
             change(net)
             with self.subTest(what):
@@ -259,7 +356,13 @@ class Updating(UpdateCommand):
         status, said = self.run_it(net, "--yes")
         self.assertEqual(status, 1, said)
         self.assertIn("the session with s3 failed: Error 3 0", said)
-        self.assertRegex(said.splitlines()[-1], r"^where the line above says to go on with --resume, this does it: planner apply .*/update-1/record .*--resume$")
+        self.assertRegex(
+            said.splitlines()[-1],
+            (
+                r"^where the line above says to go on with --resume, this does it: planner apply .*/update-1/record"
+                r" .*--resume$"
+            ),
+        )
 
     def test_the_line_that_turns_an_update_back(self):
         for only, status in (({}, 0), ({"d": {"error_at": 3}}, 1)):
@@ -283,10 +386,16 @@ class Endings(UpdateCommand):
     """Runs that are ended before anything was sent."""
 
     def begun(self, net, *more):
-        return subprocess.Popen(self.words(net, *more), stdin=subprocess.DEVNULL, stderr=subprocess.PIPE, text=True, env={**os.environ, "PLANNER": PLANNER}, preexec_fn=heed_interrupts)
+        return subprocess.Popen(
+            self.words(net, *more), stdin=subprocess.DEVNULL, stderr=subprocess.PIPE, text=True,
+            env={**os.environ, "PLANNER": PLANNER}, preexec_fn=heed_interrupts,
+        )
 
     def test_a_signal_ends_it_with_a_word(self):
-        for number, words in ((signal.SIGHUP, "its terminal was closed (SIGHUP)"), (signal.SIGINT, "the operator ended it"), (signal.SIGTERM, "the operator ended it")):
+        for number, words in (
+            (signal.SIGHUP, "its terminal was closed (SIGHUP)"), (signal.SIGINT, "the operator ended it"),
+            (signal.SIGTERM, "the operator ended it"),
+        ):
             with self.subTest(number):
                 net = self.network(only={"s3": {"late": 600.0}})
                 run = self.begun(net, "--yes")
@@ -312,10 +421,16 @@ class UnderWay(UpdateCommand):
 
     def interrupted(self, net, round_):
         """Ends an update by a key while a round runs, or waits to be begun."""
-        run = subprocess.Popen(self.words(net, "--yes", "--wait", "0.3"), stdin=subprocess.DEVNULL, stderr=subprocess.PIPE, text=True, env={**os.environ, "PLANNER": PLANNER},
-                               preexec_fn=heed_interrupts)
+        run = subprocess.Popen(
+            self.words(net, "--yes", "--wait", "0.3"), stdin=subprocess.DEVNULL, stderr=subprocess.PIPE, text=True,
+            env={**os.environ, "PLANNER": PLANNER}, preexec_fn=heed_interrupts,
+        )
         record, end = net.wanted / "update-1" / "record", time.monotonic() + LONGEST
-        while time.monotonic() < end and run.poll() is None and not (record.exists() and f"round {round_} starts" in record.read_text()):
+        while (
+            time.monotonic() < end
+            and run.poll() is None
+            and not (record.exists() and f"round {round_} starts" in record.read_text())
+        ):
             time.sleep(0.01)
         run.send_signal(signal.SIGINT)
         said = run.communicate(timeout=LONGEST)[1]
@@ -336,7 +451,9 @@ class UnderWay(UpdateCommand):
         return dict(zip(("on", "back"), re.findall(r"`planner ([^`]*)`", last)))
 
     def test_it_names_the_record_and_both_ways_on(self):
-        for name, round_, way, wanted in (("detour", 4, "on", "new"), ("detour", 6, "back", "old"), ("square", 2, "on", "new")):
+        for name, round_, way, wanted in (
+            ("detour", 4, "on", "new"), ("detour", 6, "back", "old"), ("square", 2, "on", "new"),
+        ):
             with self.subTest(name, way=way):
                 net = self.network(name)
                 record = self.interrupted(net, round_)
@@ -347,12 +464,18 @@ class UnderWay(UpdateCommand):
 
     def test_it_says_where_a_run_is_at_work(self):
         net = self.network("detour", listen=True)
-        run = subprocess.Popen(self.words(net, "--yes", "--wait", "60"), stdin=subprocess.DEVNULL, stderr=subprocess.PIPE, text=True, env={**os.environ, "PLANNER": PLANNER})
+        run = subprocess.Popen(
+            self.words(net, "--yes", "--wait", "60"), stdin=subprocess.DEVNULL, stderr=subprocess.PIPE, text=True,
+            env={**os.environ, "PLANNER": PLANNER},
+        )
         for line in run.stderr:
             if "the switches have the tables of" in line:
                 break
         try:
-            self.says(net, f"; its record is {net.wanted}/update-1/record, and a run is at work with it", "wait for the end of that run")
+            self.says(
+                net, f"; its record is {net.wanted}/update-1/record, and a run is at work with it",
+                "wait for the end of that run",
+            )
         finally:
             run.kill()
             run.communicate()
@@ -362,7 +485,10 @@ class UnderWay(UpdateCommand):
             with self.subTest(way):
                 net = self.network("detour")
                 self.interrupted(net, round_).unlink()
-                lines = self.says(net, "Its record isn't in", "; by the tables of the switches ", " of 8 rounds are settled", "update-1/plan.json", "see that nothing is at work with it any more")
+                lines = self.says(
+                    net, "Its record isn't in", "; by the tables of the switches ", " of 8 rounds are settled",
+                    "update-1/plan.json", "see that nothing is at work with it any more",
+                )
                 self.assertIn("--recover", lines[way])
                 self.carry_out(lines[way])
                 self.assertTrue(net.has(EXAMPLES / "detour" / f"{wanted}.json"))
@@ -388,17 +514,28 @@ class UnderWay(UpdateCommand):
 
 class Summaries(unittest.TestCase):
     def test_durations(self):
-        for seconds, words in ((0, "0 seconds"), (1, "1 second"), (119, "119 seconds"), (120, "2 minutes"), (1016, "17 minutes"), (7200, "2.0 hours")):
+        for seconds, words in (
+            (0, "0 seconds"), (1, "1 second"), (119, "119 seconds"), (120, "2 minutes"), (1016, "17 minutes"),
+            (7200, "2.0 hours"),
+        ):
             self.assertEqual(summary.duration(seconds), words)
 
     def test_a_plan_of_one_change(self):
         plan = {"kind": "ordered", "rules": [{"switch": "s1"}], "rounds": [[["insert", 0]]]}
-        self.assertEqual(summary.summary(plan, 1, None)[0], "The plan has 1 round with 1 change at 1 of 1 switch: 1 inserted (entry).")
+        self.assertEqual(
+            summary.summary(plan, 1, None)[0],
+            "The plan has 1 round with 1 change at 1 of 1 switch: 1 inserted (entry).",
+        )
 
     def test_a_plan_in_two_phases(self):
-        plan = {"kind": "two-phase", "rules": [{"switch": "s"}, {"switch": "t"}], "rounds": [[["insert", 0], ["delete", 1]], []]}
+        plan = {
+            "kind": "two-phase", "rules": [{"switch": "s"}, {"switch": "t"}],
+            "rounds": [[["insert", 0], ["delete", 1]], []],
+        }
         lines = summary.summary(plan, 3, 90)
-        self.assertEqual(lines[0], "The plan has 2 rounds with 2 changes at 2 of 3 switches: 1 inserted, 1 deleted (entries).")
+        self.assertEqual(
+            lines[0], "The plan has 2 rounds with 2 changes at 2 of 3 switches: 1 inserted, 1 deleted (entries)."
+        )
         self.assertIn("two phases", lines[1])
         self.assertEqual(lines[2], "With 90 s before each round it takes at least 3 minutes.")
 
