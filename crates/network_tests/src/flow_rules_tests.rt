@@ -248,6 +248,75 @@ fn an_indexed_table_answers_as_one_that_is_not(rt: HostRuntime) {
     answer_alike(&rt, &table, &plain, 0x0a01_0203);
 }
 
+/// Prefixes of 25 lengths that begin with the same address.
+const LENGTHS: [&str; 25] = [
+    "10.0.0.0/8",
+    "10.0.0.0/9",
+    "10.0.0.0/10",
+    "10.0.0.0/11",
+    "10.0.0.0/12",
+    "10.0.0.0/13",
+    "10.0.0.0/14",
+    "10.0.0.0/15",
+    "10.0.0.0/16",
+    "10.0.0.0/17",
+    "10.0.0.0/18",
+    "10.0.0.0/19",
+    "10.0.0.0/20",
+    "10.0.0.0/21",
+    "10.0.0.0/22",
+    "10.0.0.0/23",
+    "10.0.0.0/24",
+    "10.0.0.0/25",
+    "10.0.0.0/26",
+    "10.0.0.0/27",
+    "10.0.0.0/28",
+    "10.0.0.0/29",
+    "10.0.0.0/30",
+    "10.0.0.0/31",
+    "10.0.0.0/32",
+];
+
+/// Adds a rule for each of two ingress ports and three VLAN tests, which all test the same parts of a packet.
+fn add_alike(rt: &impl Abort, table: &mut Table, priority: u16, dst: &str) {
+    for port in [1, 2] {
+        for vlan in [VlanTest::Id(7), VlanTest::Untagged, VlanTest::Id(8)] {
+            let number = u16::try_from(table.rules().len()).expect(rt, "few rules");
+            add(rt, table, rule(rt, priority, port, vlan, dst, out(number)));
+        }
+    }
+}
+
+/// A table as routers have one: 150 rules, of 25 kinds, where the longer prefix has the higher priority.
+fn routes(rt: &impl Abort, alloc: Global) -> Table {
+    let mut table = Table::make(alloc).expect(rt, "a table");
+    let mut priority = 0;
+    for dst in LENGTHS {
+        priority += 1;
+        add_alike(rt, &mut table, priority, dst);
+    }
+    table
+}
+
+#[test]
+fn a_table_of_prefixes_of_many_lengths_is_searched_by_them(rt: HostRuntime) {
+    let mut table = routes(&rt, rt.alloc());
+    let plain = table.copy().expect(&rt, "a copy");
+    table.index().expect(&rt, "an index");
+    for dst in [
+        0x0a00_0000,
+        0x0a00_0001,
+        0x0a00_00ff,
+        0x0a00_ff00,
+        0x0aff_0000,
+        0x0b00_0000,
+    ] {
+        answer_alike(&rt, &table, &plain, dst);
+    }
+    assert!(rt; table.lookup(Port(1), Vlan::Id(7), 0x0a00_0000) == out(144));
+    assert!(rt; table.lookup(Port(2), Vlan::Id(8), 0x0a80_0000) == out(5));
+}
+
 #[test]
 fn all_tables_are_indexed(rt: HostRuntime) {
     let mut config = one_rule(&rt, rt.alloc());
