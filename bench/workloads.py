@@ -163,6 +163,25 @@ def replaced_rules(words: Sequence[str], count: int) -> Workload:
     )
 
 
+def routes(count: int, out: int) -> list[dict[str, Any]]:
+    """So many rules of one switch as a router has them: prefixes of 25 lengths, the longer the higher its priority."""
+    chance, found = random.Random(1), dict[str, int]()
+    while len(found) < count:
+        length = 8 + len(found) % 25
+        found.setdefault(str(ipaddress.ip_network((chance.getrandbits(32), length), strict=False)), length)
+    return [
+        {"switch": "s0", "priority": 100 + length, "dst": prefix, "out": out} for prefix, length in found.items()
+    ]
+
+
+def routing_table(words: Sequence[str], count: int) -> Workload:
+    """A routing table of one switch with two hosts, of which each rule is replaced."""
+    topology = {**one_switch(["untagged"]), "hosts": ["s0:1", "s0:2"]}
+    return updating(
+        words, topology, {"rules": routes(count, 1)}, {"rules": routes(count, 2)}, {"demands": []}
+    )
+
+
 def rekeyed_rules(count: int) -> Workload:
     """Rules of one switch that all give way to rules of other priorities: twice as many changes."""
     topology = {**one_switch(["untagged"]), "hosts": ["s0:1", "s0:2"]}
@@ -422,6 +441,15 @@ WORKLOADS = {
         "plan, 2048 rules of equal priority at one switch, all replaced", lambda: replaced_rules(PLAN, 2048),
     ),
     "check-replaced": ("check of that plan", lambda: replaced_rules(CHECK, 2048)),
+    "config-routes": (
+        "config, 2040 prefixes of 25 lengths at one switch",
+        lambda: Workload(
+            CONFIG, topology={**one_switch(["untagged"]), "hosts": ["s0:1", "s0:2"]}, config={"rules": routes(2040, 1)}
+        ),
+    ),
+    "check-routes": ("check, 2040 prefixes of 25 lengths, all replaced", lambda: routing_table(CHECK, 2040)),
+    "plan-routes": ("plan of that update", lambda: routing_table(PLAN, 2040)),
+    "pack-routes": ("pack of that update", lambda: routing_table(PACK, 2040)),
     "plan-rekeyed": ("plan, 2047 rules of one switch, each with another priority", lambda: rekeyed_rules(2047)),
     "pack-ring": ("pack, ring of 128 switches", lambda: turned_ring(PACK, 128, 4)),
     "pack-rules": ("pack, ring of 128 switches with 2048 rules", lambda: turned_ring(PACK, 128, 16)),
