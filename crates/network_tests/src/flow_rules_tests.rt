@@ -248,33 +248,33 @@ fn an_indexed_table_answers_as_one_that_is_not(rt: HostRuntime) {
     answer_alike(&rt, &table, &plain, 0x0a01_0203);
 }
 
-/// Prefixes of 25 lengths that begin with the same address.
-const LENGTHS: [&str; 25] = [
-    "10.0.0.0/8",
-    "10.0.0.0/9",
-    "10.0.0.0/10",
-    "10.0.0.0/11",
-    "10.0.0.0/12",
-    "10.0.0.0/13",
-    "10.0.0.0/14",
-    "10.0.0.0/15",
-    "10.0.0.0/16",
-    "10.0.0.0/17",
-    "10.0.0.0/18",
-    "10.0.0.0/19",
-    "10.0.0.0/20",
-    "10.0.0.0/21",
-    "10.0.0.0/22",
-    "10.0.0.0/23",
-    "10.0.0.0/24",
-    "10.0.0.0/25",
-    "10.0.0.0/26",
-    "10.0.0.0/27",
-    "10.0.0.0/28",
-    "10.0.0.0/29",
-    "10.0.0.0/30",
-    "10.0.0.0/31",
-    "10.0.0.0/32",
+/// Prefixes of 25 lengths that begin with the same address, and the length of each as a priority.
+const ROUTES: [(u16, &str); 25] = [
+    (8, "10.0.0.0/8"),
+    (9, "10.0.0.0/9"),
+    (10, "10.0.0.0/10"),
+    (11, "10.0.0.0/11"),
+    (12, "10.0.0.0/12"),
+    (13, "10.0.0.0/13"),
+    (14, "10.0.0.0/14"),
+    (15, "10.0.0.0/15"),
+    (16, "10.0.0.0/16"),
+    (17, "10.0.0.0/17"),
+    (18, "10.0.0.0/18"),
+    (19, "10.0.0.0/19"),
+    (20, "10.0.0.0/20"),
+    (21, "10.0.0.0/21"),
+    (22, "10.0.0.0/22"),
+    (23, "10.0.0.0/23"),
+    (24, "10.0.0.0/24"),
+    (25, "10.0.0.0/25"),
+    (26, "10.0.0.0/26"),
+    (27, "10.0.0.0/27"),
+    (28, "10.0.0.0/28"),
+    (29, "10.0.0.0/29"),
+    (30, "10.0.0.0/30"),
+    (31, "10.0.0.0/31"),
+    (32, "10.0.0.0/32"),
 ];
 
 /// Adds a rule for each of two ingress ports and three VLAN tests, which all test the same parts of a packet.
@@ -290,9 +290,7 @@ fn add_alike(rt: &impl Abort, table: &mut Table, priority: u16, dst: &str) {
 /// A table as routers have one: 150 rules, of 25 kinds, where the longer prefix has the higher priority.
 fn routes(rt: &impl Abort, alloc: Global) -> Table {
     let mut table = Table::make(alloc).expect(rt, "a table");
-    let mut priority = 0;
-    for dst in LENGTHS {
-        priority += 1;
+    for (priority, dst) in ROUTES {
         add_alike(rt, &mut table, priority, dst);
     }
     table
