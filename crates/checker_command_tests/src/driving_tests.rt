@@ -99,7 +99,7 @@ fn runs_alike(rt: &impl Abort, alloc: Global, texts: &UpdateTexts<'_>, plan: &[u
     };
     match plan_verdict(alloc, &files.update, &files.plan).expect(rt, "memory") {
         PlanVerdict::Certified(_) => drives_alike(rt, alloc, &files.update, &files.plan, start),
-        PlanVerdict::Refused(_) => panic!(rt; "refused"),
+        PlanVerdict::Refused(..) => panic!(rt; "refused"),
     }
 }
 
