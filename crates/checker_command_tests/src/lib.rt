@@ -12,8 +12,6 @@ mod damaged_plans;
 #[cfg(test)]
 mod drive_command_tests;
 #[cfg(test)]
-mod driving_tests;
-#[cfg(test)]
 mod empty_rounds;
 #[cfg(test)]
 mod explain_command_tests;
