@@ -9,7 +9,7 @@ use Rattle.topology.specs.Networks.{Network, switch_count, switch_named}
 use Rattle.serve_lines.specs.declared.fault.LineFault.{LineFault}
 use Rattle.serve_lines.specs.declared.fault.LineFault.TheVariants.{Bad}
 use Rattle.serve_lines.specs.declared.line.ServeLine.{ServeLine}
-use Rattle.serve_lines.specs.declared.line.ServeLine.TheVariants.{Comment, Start, Back, Reopen, Feed}
+use Rattle.serve_lines.specs.declared.line.ServeLine.TheVariants.{Comment, Start, Back, Reopen, Feed, Dead}
 
 -- ---- what a line asks for
 
@@ -19,6 +19,12 @@ reopened_in net name = do
   switch ← need (switch_named net.names name) Bad
   Ok (Reopen (record { 0 = switch }))
 
+-- the name of a switch of the network, which is dead
+unfoldable pub dead_in : Network → List ℕ → Result ServeLine LineFault
+dead_in net name = do
+  switch ← need (switch_named net.names name) Bad
+  Ok (Dead (record { 0 = switch }))
+
 -- the name of a switch of the network, one space, and the hexadecimal digits of a piece that comes from it
 unfoldable pub fed_in : Network → List ℕ → Result ServeLine LineFault
 fed_in net text = do
@@ -27,13 +33,16 @@ fed_in net text = do
   bytes ← need (bytes_in parts.1) Bad
   Ok (Feed (record { 0 = switch }) bytes)
 
--- a word, `feed` or `reopen`, one space, and what stands behind it
+-- a word, `feed`, `reopen` or `dead`, one space, and what stands behind it
 unfoldable pub worded_in : Network → List ℕ → Result ServeLine LineFault
 worded_in net text = do
   parts ← need (cut_first 32 text) Bad
-  if bytes_eq parts.0 (codes "feed") then fed_in net parts.1 else if bytes_eq parts.0 (codes "reopen") then reopened_in net parts.1 else Err Bad
+  if bytes_eq parts.0 (codes "feed") then fed_in net parts.1
+      else if bytes_eq parts.0 (codes "reopen") then reopened_in net parts.1
+      else if bytes_eq parts.0 (codes "dead") then dead_in net parts.1
+      else Err Bad
 
--- what a text asks for: `start`, `back`, `reopen SWITCH`, or `feed SWITCH HEX`
+-- what a text asks for: `start`, `back`, `reopen SWITCH`, `feed SWITCH HEX`, or `dead SWITCH`
 unfoldable pub text_in : Network → List ℕ → Result ServeLine LineFault
 text_in net text = if bytes_eq text (codes "start") then Ok Start else if bytes_eq text (codes "back") then Ok Back else worded_in net text
 
@@ -52,6 +61,7 @@ IsLineOf net Start = Unit {0}
 IsLineOf net Back = Unit {0}
 IsLineOf net (Reopen s) = s.0 < switch_count net
 IsLineOf net (Feed s bytes) = s.0 < switch_count net
+IsLineOf net (Dead s) = s.0 < switch_count net
 
 -- ---- lines that come in pieces
 

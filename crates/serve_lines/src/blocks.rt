@@ -23,7 +23,7 @@ pub enum LineOutcome {
     Finished,
     /// Refused: no round is settled, and none runs.
     NotBegun,
-    /// Refused: this switch has a change in the round and no open session.
+    /// Refused: this switch has a change in the round, isn't dead, and has no open session.
     NotOpen(SwitchId),
     /// The line has none of the forms of a line.
     BadLine,

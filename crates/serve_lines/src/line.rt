@@ -15,4 +15,6 @@ pub enum ServeLine {
     Reopen(SwitchId),
     /// This piece comes from this switch. It is never empty.
     Feed(SwitchId, Piece),
+    /// This switch died.
+    Dead(SwitchId),
 }

@@ -1,5 +1,5 @@
-//! What bytes ask for as a line: `start`, `back`, `reopen` with the name of a switch, `feed` with a name and bytes in
-//! hexadecimal digits, or nothing.
+//! What bytes ask for as a line: `start`, `back`, `reopen` or `dead` with the name of a switch, `feed` with a name and bytes
+//! in hexadecimal digits, or nothing.
 ghost use Rattle.std.specs.Prelude.{IfOk};
 ghost use Rattle.net_base.specs.Reading.{Gives};
 ghost use Rattle.serve_lines.specs.declared.fault.LineFault.TheVariants.{Memory};
@@ -26,7 +26,7 @@ fn read_fed(alloc: Global, net: &Net, text: &str) -> Result<ServeLine, LineFault
     Ok(ServeLine::Feed(switch, Piece::make(bytes)))
 }
 
-/// Reads a switch's name.
+/// Reads the name of a switch whose session is opened again.
 #[tactic(auto, unfolding(crate::specs::Lines::reopened_in))]
 fn read_reopened(net: &Net, name: &str) -> Result<ServeLine, LineFault>
     ensures read { Gives Memory (λ l. l) result (lines.reopened_in net.now name.now) }
@@ -34,6 +34,16 @@ fn read_reopened(net: &Net, name: &str) -> Result<ServeLine, LineFault>
 {
     let switch = net.find(name).ok_or(LineFault::Bad)?;
     Ok(ServeLine::Reopen(switch))
+}
+
+/// Reads the name of a switch that died.
+#[tactic(auto, unfolding(crate::specs::Lines::dead_in))]
+fn read_dead(net: &Net, name: &str) -> Result<ServeLine, LineFault>
+    ensures read { Gives Memory (λ l. l) result (lines.dead_in net.now name.now) }
+    ensures within { IfOk result (lines.IsLineOf net.now) }
+{
+    let switch = net.find(name).ok_or(LineFault::Bad)?;
+    Ok(ServeLine::Dead(switch))
 }
 
 /// Reads what a word with what stands behind it asks for.
@@ -48,6 +58,9 @@ fn read_worded(alloc: Global, net: &Net, text: &str) -> Result<ServeLine, LineFa
     }
     if word == "reopen" {
         return read_reopened(net, rest);
+    }
+    if word == "dead" {
+        return read_dead(net, rest);
     }
     Err(LineFault::Bad)
 }
@@ -79,9 +92,9 @@ fn read_spelled(alloc: Global, net: &Net, line: &[u8]) -> Result<ServeLine, Line
     }
 }
 
-/// What bytes, without a line end, ask for as a line: `start`; `back`; `reopen SWITCH`; `feed SWITCH HEX`, where HEX is an even
-/// number of at least two hexadecimal digits of either case; or nothing, where the line is empty or begins with `#`, whatever
-/// bytes follow. All else is `Bad`: a switch that the network doesn't have, and a line of more than 262,144 bytes, even one
+/// What bytes, without a line end, ask for as a line: `start`; `back`; `reopen SWITCH`; `dead SWITCH`; `feed SWITCH HEX`, where
+/// HEX is an even number of at least two hexadecimal digits of either case; or nothing, where the line is empty or begins with
+/// `#`, whatever bytes follow. All else is `Bad`: a switch that the network doesn't have, and a line of more than 262,144 bytes, even one
 /// that begins as a comment. The cost is that of one pass over the bytes.
 pub fn read_line(alloc: Global, net: &Net, line: &[u8]) -> Result<ServeLine, LineFault>
     ensures read { Gives Memory (λ l. l) result (lines.line_in net.now line.now) }

@@ -1,12 +1,11 @@
--- The changes of a switch are made, or taken back, one after the other.
-use Rattle.std.proofs.Common.{◌≡◌, ◌≢◌, ◌⊎◌, ℕ, suc, ◌<◌, ◌≤◌, Bool, true, false, not, eqb, List, [], ◌∷◌, ◌++◌, length, map, drop, set, refl, sym, ap, ◌∙◌, subst, inl, inr, append_assoc, append-nil, arith}
+-- Some changes of a round are made, or taken back, one after the other.
+use Rattle.std.proofs.Common.{◌≡◌, ◌≢◌, ◌⊎◌, ℕ, suc, ◌<◌, ◌≤◌, Bool, true, false, not, List, [], ◌∷◌, ◌++◌, length, map, drop, set, refl, sym, ap, ◌∙◌, subst, inl, inr, append_assoc, append-nil, arith}
 use Rattle.std.specs.Prelude.{slice_get, Some}
 use Rattle.std.proofs.lemmas.Bool.{cases_Bool, cases_eq}
 use Rattle.std.proofs.lemmas.List.Elements.{filter_map-append}
-use Rattle.net_base.specs.declared.ids.SwitchId.{SwitchId}
 use Rattle.topology.specs.Networks.{Network}
 use Rattle.flow_rules.specs.declared.rules.Rule.{Rule}
-use Rattle.update_model.specs.Changes.{switch_of, round_after}
+use Rattle.update_model.specs.Changes.{round_after}
 use Rattle.update_model.specs.Mixtures.{Rollout, AreGoodRounds}
 use Rattle.update_model.specs.declared.Change.{Change}
 use Rattle.update_model.specs.declared.Event.TheVariants as event
@@ -60,21 +59,19 @@ module _ (net : Network) (rounds : List (List Change)) (old : List (List Rule)) 
       let same : events_in (said ++ words) ≡ events_in said = filter_map-append event_in said words ∙ ap (λ l. events_in said ++ l) none ∙ append-nil (events_in said) in
       record { run = subst (IsTwoWayRun u) (sym same) r.run; is = ap (state_after_two_way u) same ∙ r.is }
 
-  module _ (s : SwitchId) (k : ℕ) (less : k < length rounds) where
+  -- these changes of a round
+  module _ (is_here : Change → Bool) (k : ℕ) (less : k < length rounds) where
     abbrev round : List Change
     round = round_after k rounds
 
-    abbrev is_here : Change → Bool
-    is_here c = eqb (switch_of c).0 s.0
-
-    -- after the changes of a switch from number i on got this flag
+    -- after those of these changes from number i on got this flag
     pub record AreSet (value : Bool) (i : ℕ) (a b : TwoWayState) : Type 0 where
       pub phase : b.phase ≡ a.phase
       pub packets : b.packets ≡ a.packets
       pub here : (n : ℕ) (c : Change) → i ≤ n → slice_get round n ≡ Some c → is_here c ≡ true → slice_get b.in_force n ≡ Some value
       pub others : (n : ℕ) (c : Change) → (n < i) ⊎ (is_here c ≡ false) → slice_get round n ≡ Some c → slice_get b.in_force n ≡ slice_get a.in_force n
 
-    -- the switch's changes from number i on have this flag
+    -- those from number i on have this flag
     abbrev AreStill : Bool → ℕ → TwoWayState → Type 0
     AreStill value i st = (n : ℕ) (c : Change) → i ≤ n → slice_get round n ≡ Some c → is_here c ≡ true → slice_get st.in_force n ≡ Some value
 
@@ -100,7 +97,7 @@ module _ (net : Network) (rounds : List (List Change)) (old : List (List Rule)) 
       others = λ n d other there. refl;
     }
 
-    -- change i is one of another switch
+    -- change i is none of them
     set_past : (value : Bool) (i : ℕ) (c : Change) (a b : TwoWayState) → slice_get round i ≡ Some c → is_here c ≡ false → AreSet value (suc i) a b → AreSet value i a b
     set_past value i c a b at away rest = record {
       phase = rest.phase;
@@ -160,7 +157,7 @@ module _ (net : Network) (rounds : List (List Change)) (old : List (List Rule)) 
       pub set : AreSet value i a state
 
     pub changes_made : (changes : List Change) (i : ℕ) (said : List DriverOutput) (st : TwoWayState) → drop i round ≡ changes → Reaches said st → st.phase ≡ Running (suc k) → AreStill false i st
-        → Leads true i st (said ++ change_notes s i changes)
+        → Leads true i st (said ++ change_notes is_here i changes)
     changes_made [] i said st are r running off = record { state = st; reaches = subst (λ l. Reaches l st) (sym (append-nil said)) r; set = none_set true i st are }
     changes_made (c ∷ changes) i said st are r running off =
         let (at, next) = drop_head round changes i c are in
@@ -171,33 +168,33 @@ module _ (net : Network) (rounds : List (List Change)) (old : List (List Rule)) 
               let m : TwoWayState = two_way_after u st (Onward (event.Change i)) in
               let still : AreStill false (suc i) m = λ n d le there hit. get_set_other st.in_force i n true (λ e. omega arith) ∙ off n d (omega arith) there hit in
               let rest = changes_made changes (suc i) (said ++ Log (logged.Change i) ∷ []) m next (logs said st (logged.Change i) r may) running still in
-              let words : (said ++ Log (logged.Change i) ∷ []) ++ change_notes s (suc i) changes ≡ said ++ change_notes s i (c ∷ changes) =
-              append_assoc said (Log (logged.Change i) ∷ []) (change_notes s (suc i) changes) ∙ ap (λ b. said ++ (log_if b (logged.Change i) ++ change_notes s (suc i) changes)) (sym here) in
+              let words : (said ++ Log (logged.Change i) ∷ []) ++ change_notes is_here (suc i) changes ≡ said ++ change_notes is_here i (c ∷ changes) =
+              append_assoc said (Log (logged.Change i) ∷ []) (change_notes is_here (suc i) changes) ∙ ap (λ b. said ++ (log_if b (logged.Change i) ++ change_notes is_here (suc i) changes)) (sym here) in
               record { state = rest.state; reaches = subst (λ l. Reaches l rest.state) words rest.reaches; set = set_first true i c st m rest.state at here refl refl false flag refl rest.set })
           | inr away ↦ (
               let rest = changes_made changes (suc i) said st next r running (λ n d le there hit. off n d (omega arith) there hit) in
-              let words : said ++ change_notes s (suc i) changes ≡ said ++ change_notes s i (c ∷ changes) = ap (λ b. said ++ (log_if b (logged.Change i) ++ change_notes s (suc i) changes)) (sym away) in
+              let words : said ++ change_notes is_here (suc i) changes ≡ said ++ change_notes is_here i (c ∷ changes) = ap (λ b. said ++ (log_if b (logged.Change i) ++ change_notes is_here (suc i) changes)) (sym away) in
               record { state = rest.state; reaches = subst (λ l. Reaches l rest.state) words rest.reaches; set = set_past true i c st rest.state at away rest.set })
         ]
 
     pub changes_undone : (changes : List Change) (i : ℕ) (said : List DriverOutput) (st : TwoWayState) → drop i round ≡ changes → Reaches said st → st.phase ≡ Running (suc k) → AreStill true i st
-        → Leads false i st (said ++ undo_notes s i changes)
+        → Leads false i st (said ++ undo_notes is_here i changes)
     changes_undone [] i said st are r running on = record { state = st; reaches = subst (λ l. Reaches l st) (sym (append-nil said)) r; set = none_set false i st are }
     changes_undone (c ∷ changes) i said st are r running on =
         let (at, next) = drop_head round changes i c are in
         let rest = changes_undone changes (suc i) said st next r running (λ n d le there hit. on n d (omega arith) there hit) in
         let m = rest.state in
-        let before = said ++ undo_notes s (suc i) changes in
+        let before = said ++ undo_notes is_here (suc i) changes in
         elim (cases_Bool (is_here c)) [
           | inl here ↦ (
               let flag : slice_get m.in_force i ≡ Some true = rest.set.others i c (inl (omega arith)) at ∙ on i c (omega arith) at here in
               let may : IsTwoWayEnabled u m (Undo i) = record { k = k; running = rest.set.phase ∙ running; change = c; is = at; is_in_force = flag } in
-              let words : before ++ Log (logged.Undo i) ∷ [] ≡ said ++ undo_notes s i (c ∷ changes) =
-              append_assoc said (undo_notes s (suc i) changes) (Log (logged.Undo i) ∷ []) ∙ ap (λ b. said ++ (undo_notes s (suc i) changes ++ log_if b (logged.Undo i))) (sym here) in
+              let words : before ++ Log (logged.Undo i) ∷ [] ≡ said ++ undo_notes is_here i (c ∷ changes) =
+              append_assoc said (undo_notes is_here (suc i) changes) (Log (logged.Undo i) ∷ []) ∙ ap (λ b. said ++ (undo_notes is_here (suc i) changes ++ log_if b (logged.Undo i))) (sym here) in
               let b : TwoWayState = two_way_after u m (Undo i) in
               record { state = b; reaches = subst (λ l. Reaches l b) words (logs before m (logged.Undo i) rest.reaches may); set = set_last false i c st m b at here rest.set refl refl true flag refl })
           | inr away ↦ (
-              let words : before ≡ said ++ undo_notes s i (c ∷ changes) =
-              ap (λ l. said ++ l) (sym (append-nil (undo_notes s (suc i) changes))) ∙ ap (λ b. said ++ (undo_notes s (suc i) changes ++ log_if b (logged.Undo i))) (sym away) in
+              let words : before ≡ said ++ undo_notes is_here i (c ∷ changes) =
+              ap (λ l. said ++ l) (sym (append-nil (undo_notes is_here (suc i) changes))) ∙ ap (λ b. said ++ (undo_notes is_here (suc i) changes ++ log_if b (logged.Undo i))) (sym away) in
               record { state = m; reaches = subst (λ l. Reaches l m) words rest.reaches; set = set_past false i c st m at away rest.set })
         ]

@@ -1,9 +1,11 @@
 pub mod StepLaws
 pub mod ServingLaws
 pub mod EventLaws
+pub mod PeerLaws
 pub mod RunLaws
 pub mod ReplyLaws
 pub mod WordLaws
 pub mod AnswerLaws
 pub mod XidLaws
+pub mod QuietLaws
 pub mod SendingLaws

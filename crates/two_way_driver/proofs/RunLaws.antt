@@ -1,13 +1,10 @@
 -- What a driver says is a run.
-use Rattle.std.proofs.Common.{◌≡◌, ◌≢◌, ◌⊎◌, ℕ, zero, suc, ◌+◌, ◌<◌, ◌≤◌, Bool, true, false, cond, not, eqb, ltb, ◌&&◌, List, [], ◌∷◌, ◌++◌, length, drop, replicate, set, get_or, get_or-set_same, get_or-set_other, refl, sym, ap, ◌∙◌, subst, inl, inr, length-set, arith}
+use Rattle.std.proofs.Common.{◌≡◌, ◌≢◌, ◌⊎◌, ℕ, zero, suc, ◌+◌, ◌<◌, ◌≤◌, Bool, true, false, cond, not, eqb, ltb, ◌&&◌, map, List, [], ◌∷◌, ◌++◌, length, drop, replicate, set, get_or, get_or-set_same, get_or-set_other, refl, sym, ap, ◌∙◌, subst, inl, inr, length-set, arith}
 use Rattle.std.specs.Prelude.{slice_get, Option, Some, None, is_some, is_none}
-use Rattle.std.specs.List.{AllByRecursion, list_all}
+use Rattle.std.specs.List.{AllByRecursion}
 use Rattle.std.specs.Option.{option_map_or}
 use Rattle.std.proofs.lemmas.Bool.{cases_Bool, cases_eq, cond-true, cond_both, eqb-true, eq-eqb}
-use Rattle.std.proofs.lemmas.List.{length-replicate}
-use Rattle.std.proofs.lemmas.Option.{slice_get_within, slice_get-get_or}
-use Rattle.std.proofs.lemmas.List.Elements.{filter_map-append}
-use Rattle.std.proofs.lemmas.List.Folds.{list_any_at}
+use Rattle.std.proofs.lemmas.List.{length-replicate, length-map}
 use Rattle.net_base.specs.declared.ids.SwitchId.{SwitchId}
 use Rattle.topology.specs.Networks.{Network, switch_count}
 use Rattle.flow_rules.specs.declared.rules.Rule.{Rule}
@@ -25,17 +22,16 @@ use Rattle.switch_session.specs.declared.Session.TheVariants.{Waiting, Open}
 use Rattle.switch_session.specs.declared.Session.TheVariants as session
 use Rattle.switch_session.specs.Channels.{ChannelState, hello, is_open, is_failed, after_request, after_byte}
 use Rattle.switch_session.proofs.ByteLaws.{keeps_barrier}
-use Rattle.turned_rounds.specs.Batches.{next_if, xid_behind, batch_of}
-use Rattle.turned_rounds.specs.declared.outgoing.Outgoing.{Outgoing}
+use Rattle.turned_rounds.specs.Batches.{xid_behind, batch_of}
 use Rattle.law_two_way_runs.specs.States.{TwoWayEvent, TwoWayState, first_two_way, IsTwoWayEnabled, two_way_after, turned_back}
 use Rattle.law_two_way_runs.specs.States as two_way
 use Rattle.law_two_way_runs.specs.Runs.{IsTwoWayRun, state_after_two_way}
 use Rattle.law_two_way_runs.proofs.Turning.{TablesAre}
 use Rattle.two_way_driver.specs.PeerStates.{PeerState}
-use Rattle.two_way_driver.specs.Peers.{first_peer, failure_in, heard_of, kept_of, peer_after, queued_peer, asks, asks_again, answers, reopened_peer}
-use Rattle.two_way_driver.specs.Drivers.{DriverState, peer_at, with_peer, with_said, send_if, sends, is_to_open, is_to, asks_if, asked_from, sent_out, settled_in, all_answered, settled_if_answered, undo_notes, made_state, undone_state, carried_out, answered_state, sent_again, opened_state, running_round, asked_round, heard_state, fed_byte, state_after_bytes, first_words, first_driver, flagged_state, started_with, undone_with, turned_with, start_fault_in, back_fault_in, started_in, turned_in, reopened_driver}
+use Rattle.two_way_driver.specs.Peers.{first_peer, failure_in, heard_of, kept_of, peer_after, asks, asks_again, answers, reopened_peer, dead_peer, settled_peer}
+use Rattle.two_way_driver.specs.Drivers.{DriverState, peer_at, with_peer, with_said, sends, is_to_open, is_to, asks_if, asked_from, sent_out, settled_in, all_answered, settled_if_answered, change_notes, undo_notes, is_change_at, is_dead_made, is_dead_unmade, made_state, undone_state, carried_out, answered_state, sent_again, opened_state, running_round, asked_round, heard_state, heard_byte, fed_byte, state_after_bytes, first_driver, flagged_state, started_with, undone_with, turned_with, start_fault_in, back_fault_in, started_in, turned_in, reopened_driver, dead_driver}
 use Rattle.two_way_driver.specs.Calls.{AreTurnable, DriverView, with_state, IsStageWithin, start_fault, back_fault}
-use Rattle.two_way_driver.specs.Laws.{Call, Start, Back, Reopen, Feed, IsCall, after_call, after_calls, driver_after, event_in, events_in, phase_of, InForceBySwitch, InForceAs, rollout_of, SaysRun, AllAreFree, BeginsAnswered}
+use Rattle.two_way_driver.specs.Laws.{Call, Start, Back, Reopen, Feed, Dead, IsCall, after_call, after_calls, driver_after, events_in, phase_of, InForceBySwitch, InForceAs, rollout_of, SaysRun, AllAreFree, BeginsAnswered}
 use Rattle.two_way_driver.specs.declared.Stage.{Stage}
 use Rattle.two_way_driver.specs.declared.Stage.TheVariants.{Settled, Onward, Undone}
 use Rattle.two_way_driver.specs.declared.DriverEvent.TheVariants as logged
@@ -45,126 +41,8 @@ use Rattle.two_way_driver.specs.declared.peers.ByteOutcome.{ByteOutcome}
 use Rattle.two_way_driver.specs.declared.peers.ByteOutcome.TheVariants.{Nothing, Opened, Answered, Replied}
 use Rattle.two_way_driver.specs.declared.faults.CallFault.TheVariants as fault
 use Rattle.two_way_driver.proofs.EventLaws.{Reaches, sound_at, logs, says, AreSet, changes_made, changes_undone}
-
--- ---- lists
-
-all_at : (peers : List PeerState) (i : ℕ) → all_answered peers ≡ true → (get_or peers i first_peer).asked ≡ None
-all_at [] i all = refl
-all_at (p ∷ peers) zero all = none_from p.asked (list_all (λ (q : PeerState). is_none q.asked) peers) all
-  where
-    none_from : (o : Option ℕ) (b : Bool) → (is_none o && b) ≡ true → o ≡ None
-    none_from None b e = refl
-    none_from (Some x) b e = absurd (let f : false ≡ true = e in cc)
-all_at (p ∷ peers) (suc i) all = all_at peers i (rest_from p.asked (list_all (λ (q : PeerState). is_none q.asked) peers) all)
-  where
-    rest_from : (o : Option ℕ) (b : Bool) → (is_none o && b) ≡ true → b ≡ true
-    rest_from None b e = e
-    rest_from (Some x) b e = absurd (let f : false ≡ true = e in cc)
-
--- flags that are alike at the place of each change
-all_alike : (value : Bool) (flags : List Bool) (round : List Change) → length flags ≡ length round → ((i : ℕ) (c : Change) → slice_get round i ≡ Some c → slice_get flags i ≡ Some value)
-    → AllByRecursion (λ b. b ≡ value) flags
-all_alike value [] round e h = tt
-all_alike value (b ∷ flags) [] e h = absurd (omega arith)
-all_alike value (b ∷ flags) (c ∷ round) e h =
-    ((let f : Some b ≡ Some value = h 0 c refl in cc), all_alike value flags round (omega arith) (λ i d at. h (suc i) d at))
-
-changed_at : (round : List Change) (i : ℕ) (c : Change) → slice_get round i ≡ Some c → is_changed round (switch_of c) ≡ true
-changed_at round i c at =
-    let less = slice_get_within round i c at in
-    let f : Some (get_or round i c) ≡ Some c = sym (slice_get-get_or round i c less) ∙ at in
-    let g : get_or round i c ≡ c = cc in
-    list_any_at (λ (x : Change). eqb (switch_of x).0 (switch_of c).0) round i c less (ap (λ (x : Change). eqb (switch_of x).0 (switch_of c).0) g ∙ eq-eqb (switch_of c).0 (switch_of c).0 refl)
-
-each_got : {A : Type 0} (P : A → Type 0) (xs : List A) (i : ℕ) (x : A) → AllByRecursion P xs → slice_get xs i ≡ Some x → P x
-each_got P [] i x all at = absurd (let f : None ≡ Some x = at in cc)
-each_got P (y ∷ xs) zero x all at = let f : Some y ≡ Some x = at in let g : y ≡ x = cc in subst P g all.0
-each_got P (y ∷ xs) (suc i) x all at = each_got P xs i x all.1 at
-
-each_round : (P : Change → Type 0) (rounds : List (List Change)) (k : ℕ) → AllByRecursion (AllByRecursion P) rounds → AllByRecursion P (round_after k rounds)
-each_round P [] k all = tt
-each_round P (round ∷ rounds) zero all = all.0
-each_round P (round ∷ rounds) (suc k) all = each_round P rounds k all.1
-
-get_replicate : (n i : ℕ) (b : Bool) → i < n → get_or (replicate n b) i false ≡ b
-get_replicate zero i b less = absurd (omega arith)
-get_replicate (suc n) zero b less = refl
-get_replicate (suc n) (suc i) b less = get_replicate n i b (omega arith)
-
-got_replicate : (round : List Change) (i : ℕ) (c : Change) (b : Bool) → slice_get round i ≡ Some c → slice_get (replicate (length round) b) i ≡ Some b
-got_replicate [] i c b at = absurd (let f : None ≡ Some c = at in cc)
-got_replicate (d ∷ round) zero c b at = refl
-got_replicate (d ∷ round) (suc i) c b at = got_replicate round i c b at
-
--- messages are no events
-sends_no_event : (wanted : Outgoing → Bool) (ms : List Outgoing) → events_in (sends wanted ms) ≡ []
-sends_no_event wanted [] = refl
-sends_no_event wanted (m ∷ ms) = filter_map-append event_in (send_if (wanted m) m) (sends wanted ms) ∙ one (wanted m) ∙ sends_no_event wanted ms
-  where
-    one : (b : Bool) → events_in (send_if b m) ++ events_in (sends wanted ms) ≡ events_in (sends wanted ms)
-    one true = refl
-    one false = refl
-
-words_no_event : (n count : ℕ) → events_in (first_words n count) ≡ []
-words_no_event n zero = refl
-words_no_event n (suc count) = words_no_event (suc n) count
-
-asked_at : (round : List Change) (x n : ℕ) (peers : List PeerState) (i : ℕ) → i < length peers
-    → (y : ℕ) × (get_or (asked_from x round n peers) i first_peer ≡ asks_if (is_changed round (switch_numbered (n + i))) y (get_or peers i first_peer))
-asked_at round x n [] i less = absurd (omega arith)
-asked_at round x n (p ∷ peers) zero less = (x, (let same : n ≡ n + zero = omega arith in ap (λ (j : ℕ). asks_if (is_changed round (switch_numbered j)) x p) same))
-asked_at round x n (p ∷ peers) (suc i) less =
-    let next = next_if (is_changed round (switch_numbered n)) x in
-    let (y, e) = asked_at round next (suc n) peers i (omega arith) in
-    let same : suc n + i ≡ n + suc i = omega arith in
-    (y, e ∙ ap (λ (j : ℕ). asks_if (is_changed round (switch_numbered j)) y (get_or peers i first_peer)) same)
-
-length-asked : (x : ℕ) (round : List Change) (n : ℕ) (peers : List PeerState) → length (asked_from x round n peers) ≡ length peers
-length-asked x round n [] = refl
-length-asked x round n (p ∷ peers) = ap suc (length-asked (next_if (is_changed round (switch_numbered n)) x) round (suc n) peers)
-
--- ---- one switch
-
--- which of its barrier requests a switch has to answer, and whether its changes are in force, by how the round goes
-abbrev PeerWaits : Stage → Bool → PeerState → Bool → Type 0
-PeerWaits (Settled k) changed p flag = p.asked ≡ None
-PeerWaits (Onward k) changed p flag = (p.behind ≡ None) × (is_some p.asked ≡ true → flag ≡ false) × (changed ≡ true → p.asked ≡ None → flag ≡ true)
-PeerWaits (Undone k) changed p flag = (is_some p.behind ≡ true → flag ≡ false) × (changed ≡ true → p.asked ≡ None → flag ≡ false)
-
-pub record PeerFits (stage : Stage) (changed : Bool) (p : PeerState) (flag : Bool) : Type 0 where
-  pub free : p.asked ≡ None → (p.channel.outstanding ≡ None) × (p.behind ≡ None)
-  pub waits : PeerWaits stage changed p flag
-
-none_some : {A : Type 0} (o : Option A) → is_some o ≡ true → o ≡ None → ⊥
-none_some None e f = let g : false ≡ true = e in cc
-none_some (Some x) e f = let g : Some x ≡ None = f in cc
-
--- a barrier request that is outstanding is one that waits
-outstanding_waits : (p : PeerState) → (p.asked ≡ None → (p.channel.outstanding ≡ None) × (p.behind ≡ None)) → is_some p.channel.outstanding ≡ true → is_some p.asked ≡ true
-outstanding_waits p free some = go p.asked refl
-  where
-    go : (o : Option ℕ) → p.asked ≡ o → is_some p.asked ≡ true
-    go None e = absurd (none_some p.channel.outstanding some (free e).0)
-    go (Some x) e = ap is_some e
-
-queued_asked : (x : ℕ) (p : PeerState) → (queued_peer x p).asked ≡ p.asked
-queued_asked x p = cond_both (is_some p.channel.outstanding) (record p { behind = Some x }) (record p { channel = after_request [] x p.channel }) (λ (q : PeerState). q.asked ≡ p.asked) (λ e. refl) (λ e. refl)
-
-asks_asked : (x : ℕ) (p : PeerState) → (asks x p).asked ≡ Some x
-unfolding asks
-asks_asked x p = cond_both (is_open p.channel.session) (queued_peer x (record p { asked = Some x })) (record p { asked = Some x }) (λ (q : PeerState). q.asked ≡ Some x) (λ e. queued_asked x (record p { asked = Some x })) (λ e. refl)
-
--- behind the outstanding request stands one only where one was outstanding
-asks_behind : (x : ℕ) (p : PeerState) → p.behind ≡ None → ((asks x p).behind ≡ None) ⊎ (is_some p.channel.outstanding ≡ true)
-unfolding asks
-asks_behind x p none =
-    let q : PeerState = record p { asked = Some x } in
-    let Here : PeerState → Type 0 = λ (r : PeerState). (r.behind ≡ None) ⊎ (is_some p.channel.outstanding ≡ true) in
-    cond_both (is_open p.channel.session) (queued_peer x q) q Here
-    (λ e. cond_both (is_some p.channel.outstanding) (record q { behind = Some x }) (record q { channel = after_request [] x p.channel }) Here (λ t. inr t) (λ t. inl none)) (λ e. inl none)
-
-fits_asked : (stage : Stage) (changed flag : Bool) (x : ℕ) (p : PeerState) → PeerWaits stage changed (asks x p) flag → PeerFits stage changed (asks x p) flag
-fits_asked stage changed flag x p waits = record { free = λ e. absurd (let f : Some x ≡ None = sym (asks_asked x p) ∙ e in cc); waits = waits }
+use Rattle.two_way_driver.proofs.ServingLaws.{length-asked}
+use Rattle.two_way_driver.proofs.PeerLaws.{all_at, all_alike, changed_at, each_got, each_round, get_replicate, got_replicate, sends_no_event, words_no_event, asked_at, and_off, and_second, not_off, not_on, none_some, outstanding_waits, asks_behind, fits_asked, settled_at, fits_settled, never, fits_reopened, fits_dead, fits_again, alone_behind, not_asked, PeerWaits, PeerFits}
 
 -- ---- all switches
 
@@ -253,50 +131,105 @@ module _ (net : Network) (rounds inverses : List (List Change)) (old : List (Lis
   in_net : (k i : ℕ) (c : Change) → slice_get (round_after k rounds) i ≡ Some c → (switch_of c).0 < switch_count net
   in_net k i c at = (each_got (IsPlanChange net) (round_after k rounds) i c (each_round (IsPlanChange net) rounds k turnable.plan) at).switch
 
-  follows_settled : (stage : Stage) (d : DriverState) → d.stage ≡ stage → all_answered d.peers ≡ true → Follows (record d { stage = stage }) → Follows (settled_in stage (record d { stage = stage }))
+  -- a change of the round at a switch that isn't asked, in a round that is carried out
+  made_at : (k : ℕ) (d : DriverState) → all_answered d.peers ≡ true → Follows (record d { stage = Onward k }) → (i : ℕ) (c : Change) → slice_get (round_after k rounds) i ≡ Some c
+      → is_dead_unmade d.peers d.in_force c ≡ false → get_or d.in_force (switch_of c).0 false ≡ true
+  made_at k d all f i c at left =
+      elim (and_off (get_or d.peers (switch_of c).0 first_peer).is_dead (not (get_or d.in_force (switch_of c).0 false)) left) [
+        | inl alive ↦ (f.fits (switch_of c) (in_net k i c at)).waits.2 (changed_at (round_after k rounds) i c at) (all_at d.peers (switch_of c).0 all alive)
+        | inr off ↦ not_off (get_or d.in_force (switch_of c).0 false) off
+      ]
+
+  -- and in one that is being taken back
+  unmade_at : (k : ℕ) (d : DriverState) → all_answered d.peers ≡ true → Follows (record d { stage = Undone k }) → (i : ℕ) (c : Change) → slice_get (round_after k rounds) i ≡ Some c
+      → is_dead_made d.peers d.in_force c ≡ false → get_or d.in_force (switch_of c).0 false ≡ false
+  unmade_at k d all f i c at left =
+      elim (and_off (get_or d.peers (switch_of c).0 first_peer).is_dead (get_or d.in_force (switch_of c).0 false) left) [
+        | inl alive ↦ (f.fits (switch_of c) (in_net k i c at)).waits.1 (changed_at (round_after k rounds) i c at) (all_at d.peers (switch_of c).0 all alive)
+        | inr off ↦ off
+      ]
+
+  all_fit_settled : (k : ℕ) (d : DriverState) → all_answered d.peers ≡ true → AllFit d.stage d.peers d.in_force → AllFit (Settled k) (map settled_peer d.peers) d.in_force
+  all_fit_settled k d all fits s within =
+      subst (λ q. PeerFits (Settled k) (changed_in (Settled k) s) q (get_or d.in_force s.0 false)) (sym (settled_at d.peers s.0))
+      (fits_settled d.stage k (changed_in d.stage s) (get_or d.in_force s.0 false) (get_or d.peers s.0 first_peer) (all_at d.peers s.0 all) (fits s within) (changed_in (Settled k) s))
+
+  settled_still : (k : ℕ) (d : DriverState) → Follows (record d { stage = Settled k }) → Follows (settled_in [] (Settled k) (record d { stage = Settled k }))
   unfolding settled_in
-  follows_settled (Settled k) d is all f = f
-  follows_settled (Onward k) d is all f =
-      let sound = sound_at net rounds old good d.said f.state f.reaches in
-      let are : TablesAre u (phase.Running (suc k)) f.state.tables f.state.in_force = subst (λ p. TablesAre u p f.state.tables f.state.in_force) f.phase sound.tables in
-      let on : AllByRecursion (λ b. b ≡ true) f.state.in_force = all_alike true f.state.in_force (round_after k rounds) are.1
-      (λ i c at. f.in_force i c at ∙ ap Some ((f.fits (switch_of c) (in_net k i c at)).waits.2 (changed_at (round_after k rounds) i c at) (all_at d.peers (switch_of c).0 all))) in
-      let may : IsTwoWayEnabled u f.state (two_way.Onward event.Settle) = record { k = suc k; running = f.phase; all_in_force = on } in
-      let next : TwoWayState = two_way_after u f.state (two_way.Onward event.Settle) in
+  settled_still k d f = f
+
+  settled_onward : (k : ℕ) (d : DriverState) → all_answered d.peers ≡ true → Follows (record d { stage = Onward k }) → Follows (settled_in (round_after k rounds) (Onward k) (record d { stage = Onward k }))
+  unfolding settled_in
+  settled_onward k d all f =
+      let less : k < length rounds = f.within in
+      let round = round_after k rounds in
+      let left = is_dead_unmade d.peers d.in_force in
+      let notes = change_notes left 0 round in
+      let lead = changes_made net rounds old good left k less round 0 d.said f.state refl f.reaches f.phase
+      (λ n c le at hit. f.in_force n c at ∙ ap Some (not_on (get_or d.in_force (switch_of c).0 false) (and_second (get_or d.peers (switch_of c).0 first_peer).is_dead (not (get_or d.in_force (switch_of c).0 false)) hit))) in
+      let running : lead.state.phase ≡ phase.Running (suc k) = lead.set.phase ∙ f.phase in
+      let sound = sound_at net rounds old good (d.said ++ notes) lead.state lead.reaches in
+      let are : TablesAre u (phase.Running (suc k)) lead.state.tables lead.state.in_force = subst (λ p. TablesAre u p lead.state.tables lead.state.in_force) running sound.tables in
+      let on : AllByRecursion (λ b. b ≡ true) lead.state.in_force = all_alike true lead.state.in_force round are.1
+      (λ i c at. elim (cases_Bool (left c)) [
+        | inl here ↦ lead.set.here i c (omega arith) at here
+        | inr away ↦ lead.set.others i c (inr away) at ∙ f.in_force i c at ∙ ap Some (made_at k d all f i c at away)
+      ]) in
+      let may : IsTwoWayEnabled u lead.state (two_way.Onward event.Settle) = record { k = suc k; running = running; all_in_force = on } in
+      let next : TwoWayState = two_way_after u lead.state (two_way.Onward event.Settle) in
       record {
         state = next;
-        reaches = logs net rounds old good d.said f.state logged.Settle f.reaches may;
-        phase = ap (λ p. (two_way_after u (record f.state { phase = p }) (two_way.Onward event.Settle)).phase) f.phase;
-        packets = f.packets;
+        reaches = logs net rounds old good (d.said ++ notes) lead.state logged.Settle lead.reaches may;
+        phase = ap (λ p. (two_way_after u (record lead.state { phase = p }) (two_way.Onward event.Settle)).phase) running;
+        packets = lead.set.packets ∙ f.packets;
         in_force = tt;
-        fits = λ s within. record { free = (f.fits s within).free; waits = all_at d.peers s.0 all };
-        peers = f.peers;
+        fits = all_fit_settled (suc k) (record d { stage = Onward k }) all f.fits;
+        peers = length-map d.peers settled_peer ∙ f.peers;
         flags = f.flags;
-        within = (let less : k < length rounds = f.within in omega arith);
-      }
-  follows_settled (Undone k) d is all f =
-      let sound = sound_at net rounds old good d.said f.state f.reaches in
-      let are : TablesAre u (phase.Running (suc k)) f.state.tables f.state.in_force = subst (λ p. TablesAre u p f.state.tables f.state.in_force) f.phase sound.tables in
-      let off : AllByRecursion (λ b. b ≡ false) f.state.in_force = all_alike false f.state.in_force (round_after k rounds) are.1
-      (λ i c at. f.in_force i c at ∙ ap Some ((f.fits (switch_of c) (in_net k i c at)).waits.1 (changed_at (round_after k rounds) i c at) (all_at d.peers (switch_of c).0 all))) in
-      let may : IsTwoWayEnabled u f.state two_way.SettleBack = record { k = k; running = f.phase; none_in_force = off } in
-      let next : TwoWayState = two_way_after u f.state two_way.SettleBack in
-      record {
-        state = next;
-        reaches = logs net rounds old good d.said f.state logged.SettleBack f.reaches may;
-        phase = ap (λ p. (two_way_after u (record f.state { phase = p }) two_way.SettleBack).phase) f.phase;
-        packets = f.packets;
-        in_force = tt;
-        fits = λ s within. record { free = (f.fits s within).free; waits = all_at d.peers s.0 all };
-        peers = f.peers;
-        flags = f.flags;
-        within = (let less : k < length rounds = f.within in omega arith);
+        within = omega arith;
       }
 
-  follows_if_answered : (d : DriverState) → Follows d → Follows (settled_if_answered d)
+  settled_undone : (k : ℕ) (d : DriverState) → all_answered d.peers ≡ true → Follows (record d { stage = Undone k }) → Follows (settled_in (round_after k rounds) (Undone k) (record d { stage = Undone k }))
+  unfolding settled_in
+  settled_undone k d all f =
+      let less : k < length rounds = f.within in
+      let round = round_after k rounds in
+      let left = is_dead_made d.peers d.in_force in
+      let notes = undo_notes left 0 round in
+      let lead = changes_undone net rounds old good left k less round 0 d.said f.state refl f.reaches f.phase
+      (λ n c le at hit. f.in_force n c at ∙ ap Some (and_second (get_or d.peers (switch_of c).0 first_peer).is_dead (get_or d.in_force (switch_of c).0 false) hit)) in
+      let running : lead.state.phase ≡ phase.Running (suc k) = lead.set.phase ∙ f.phase in
+      let sound = sound_at net rounds old good (d.said ++ notes) lead.state lead.reaches in
+      let are : TablesAre u (phase.Running (suc k)) lead.state.tables lead.state.in_force = subst (λ p. TablesAre u p lead.state.tables lead.state.in_force) running sound.tables in
+      let off : AllByRecursion (λ b. b ≡ false) lead.state.in_force = all_alike false lead.state.in_force round are.1
+      (λ i c at. elim (cases_Bool (left c)) [
+        | inl here ↦ lead.set.here i c (omega arith) at here
+        | inr away ↦ lead.set.others i c (inr away) at ∙ f.in_force i c at ∙ ap Some (unmade_at k d all f i c at away)
+      ]) in
+      let may : IsTwoWayEnabled u lead.state two_way.SettleBack = record { k = k; running = running; none_in_force = off } in
+      let next : TwoWayState = two_way_after u lead.state two_way.SettleBack in
+      record {
+        state = next;
+        reaches = logs net rounds old good (d.said ++ notes) lead.state logged.SettleBack lead.reaches may;
+        phase = ap (λ p. (two_way_after u (record lead.state { phase = p }) two_way.SettleBack).phase) running;
+        packets = lead.set.packets ∙ f.packets;
+        in_force = tt;
+        fits = all_fit_settled k (record d { stage = Undone k }) all f.fits;
+        peers = length-map d.peers settled_peer ∙ f.peers;
+        flags = f.flags;
+        within = omega arith;
+      }
+
+  follows_settled : (round : List Change) (stage : Stage) (d : DriverState) → d.stage ≡ stage → round ≡ running_round rounds stage → all_answered d.peers ≡ true → Follows (record d { stage = stage })
+      → Follows (settled_in round stage (record d { stage = stage }))
+  follows_settled round (Settled k) d is these all f = subst (λ l. Follows (settled_in l (Settled k) (record d { stage = Settled k }))) (sym these) (settled_still k d f)
+  follows_settled round (Onward k) d is these all f = subst (λ l. Follows (settled_in l (Onward k) (record d { stage = Onward k }))) (sym these) (settled_onward k d all f)
+  follows_settled round (Undone k) d is these all f = subst (λ l. Follows (settled_in l (Undone k) (record d { stage = Undone k }))) (sym these) (settled_undone k d all f)
+
+  follows_if_answered : (round : List Change) (d : DriverState) → round ≡ running_round rounds d.stage → Follows d → Follows (settled_if_answered round d)
   unfolding settled_if_answered
-  follows_if_answered d f =
-      cond_both (all_answered d.peers) (settled_in d.stage d) d Follows (λ all. follows_settled d.stage d refl all f) (λ e. f)
+  follows_if_answered round d these f =
+      cond_both (all_answered d.peers) (settled_in round d.stage d) d Follows (λ all. follows_settled round d.stage d refl these all f) (λ e. f)
 
   -- ---- the changes of a switch get a flag
 
@@ -310,7 +243,7 @@ module _ (net : Network) (rounds inverses : List (List Change)) (old : List (Lis
     still_from value are flag n c le at hit = are n c at ∙ ap (λ (j : ℕ). Some (get_or d.in_force j false)) (eqb-true (switch_of c).0 s.0 hit) ∙ ap Some flag
 
     -- and behind
-    by_switch : (value : Bool) (b : TwoWayState) → InForceBySwitch round d.in_force f.state.in_force → AreSet net rounds old good s k less value 0 f.state b → InForceBySwitch round (set d.in_force s.0 value) b.in_force
+    by_switch : (value : Bool) (b : TwoWayState) → InForceBySwitch round d.in_force f.state.in_force → AreSet net rounds old good (is_change_at s) k less value 0 f.state b → InForceBySwitch round (set d.in_force s.0 value) b.in_force
     by_switch value b are set_now n c at =
         let count = f.flags in
         elim (cases_Bool (eqb (switch_of c).0 s.0)) [
@@ -331,7 +264,7 @@ module _ (net : Network) (rounds inverses : List (List Change)) (old : List (Lis
   made_onward k d s p is here off fit f =
       let less : k < length rounds = f.within in
       let e : DriverState = record d { stage = Onward k } in
-      let lead = changes_made net rounds old good s k less (round_after k rounds) 0 d.said f.state refl f.reaches f.phase (still_from (Onward k) k less e s here f false f.in_force off) in
+      let lead = changes_made net rounds old good (is_change_at s) k less (round_after k rounds) 0 d.said f.state refl f.reaches f.phase (still_from (Onward k) k less e s here f false f.in_force off) in
       let peers = f.peers in
       let flags = f.flags in
       record {
@@ -353,7 +286,7 @@ module _ (net : Network) (rounds inverses : List (List Change)) (old : List (Lis
   made_undone k d s p is here off fit f =
       let less : k < length rounds = f.within in
       let e : DriverState = record d { stage = Undone k } in
-      let lead = changes_made net rounds old good s k less (round_after k rounds) 0 d.said f.state refl f.reaches f.phase (still_from (Undone k) k less e s here f false f.in_force off) in
+      let lead = changes_made net rounds old good (is_change_at s) k less (round_after k rounds) 0 d.said f.state refl f.reaches f.phase (still_from (Undone k) k less e s here f false f.in_force off) in
       let peers = f.peers in
       let flags = f.flags in
       record {
@@ -378,9 +311,9 @@ module _ (net : Network) (rounds inverses : List (List Change)) (old : List (Lis
       let g = with_peer s p e in
       let peers = f.peers in
       let flags = f.flags in
-      cond_both (get_or d.in_force s.0 false) (record g { in_force = set d.in_force s.0 false; said = d.said ++ undo_notes s 0 (round_after k rounds) }) g Follows
+      cond_both (get_or d.in_force s.0 false) (record g { in_force = set d.in_force s.0 false; said = d.said ++ undo_notes (is_change_at s) 0 (round_after k rounds) }) g Follows
       (λ on.
-      let lead = changes_undone net rounds old good s k less (round_after k rounds) 0 d.said f.state refl f.reaches f.phase (still_from (Undone k) k less e s here f true f.in_force on) in
+      let lead = changes_undone net rounds old good (is_change_at s) k less (round_after k rounds) 0 d.said f.state refl f.reaches f.phase (still_from (Undone k) k less e s here f true f.in_force on) in
       record {
         state = lead.state;
         reaches = lead.reaches;
@@ -404,6 +337,13 @@ module _ (net : Network) (rounds inverses : List (List Change)) (old : List (Lis
   unfolding answers
   answers_more p x e = ap (λ (o : Option ℕ). let r : PeerState = option_map_or (λ y. record p { channel = after_request [] y p.channel; behind = None }) o (record p { asked = None }) in r) e
 
+  carried_stage : (changes : List Change) (s : SwitchId) (stage : Stage) (d : DriverState) → d.stage ≡ stage → (carried_out changes s stage d).stage ≡ stage
+  unfolding made_state undone_state
+  carried_stage changes s (Settled k) d is = is
+  carried_stage changes s (Onward k) d is = is
+  carried_stage changes s (Undone k) d is =
+      cond_both (get_or d.in_force s.0 false) (record d { in_force = set d.in_force s.0 false; said = d.said ++ undo_notes (is_change_at s) 0 changes }) d (λ (e : DriverState). e.stage ≡ Undone k) (λ _. is) (λ _. is)
+
   module _ (d : DriverState) (s : SwitchId) (here : s.0 < switch_count net) where
     abbrev peer : PeerState
     peer = peer_at d s
@@ -415,10 +355,10 @@ module _ (net : Network) (rounds inverses : List (List Change)) (old : List (Lis
     last_answer (Onward k) is some none alone f =
         let w = (f.fits s here).waits in
         made_onward k d s (without_request (peer_at d s)) is here (w.1 some)
-        (record { free = λ e. (none, alone); waits = (alone, (λ t. let g : false ≡ true = t in absurd (cc)), (λ c e. refl)) }) f
+        (record { free = λ e. (none, alone); waits = (alone, (λ t. absurd (never t)), (λ c e. refl)); gone = (f.fits s here).gone }) f
     last_answer (Undone k) is some none alone f =
         taken_back k d s (without_request (peer_at d s)) here
-        (record { free = λ e. (none, alone); waits = ((λ t. refl), (λ c e. refl)) }) f
+        (record { free = λ e. (none, alone); waits = ((λ t. refl), (λ c e. refl)); gone = (f.fits s here).gone }) f
 
     -- behind it stands the request of the turning
     more_answer : (stage : Stage) (x : ℕ) → d.stage ≡ stage → is_some (peer_at d s).asked ≡ true → (peer_at d s).behind ≡ Some x → Follows (record d { stage = stage })
@@ -428,7 +368,11 @@ module _ (net : Network) (rounds inverses : List (List Change)) (old : List (Lis
     more_answer (Undone k) x is some more f =
         let w = (f.fits s here).waits in
         made_undone k d s (record (peer_at d s) { channel = after_request [] x (peer_at d s).channel; behind = None }) is here (w.0 (ap is_some more))
-        (record { free = λ e. absurd (none_some (peer_at d s).asked some e); waits = ((λ t. let g : false ≡ true = t in absurd (cc)), (λ c e. absurd (none_some (peer_at d s).asked some e))) }) f
+        (record {
+          free = λ e. absurd (none_some (peer_at d s).asked some e);
+          waits = ((λ t. absurd (never t)), (λ c e. absurd (none_some (peer_at d s).asked some e)));
+          gone = λ dead. (let g : Some x ≡ None = sym more ∙ ((f.fits s here).gone dead).1 in absurd (cc));
+        }) f
 
     follows_answered : is_some (peer_at d s).asked ≡ true → (peer_at d s).channel.outstanding ≡ None → Follows d → Follows (answered_state (running_round rounds d.stage) s d)
     unfolding answered_state
@@ -436,39 +380,35 @@ module _ (net : Network) (rounds inverses : List (List Change)) (old : List (Lis
         let p = peer_at d s in
         let round = running_round rounds d.stage in
         let e = with_peer s (answers p) d in
-        let End : Bool → PeerState → DriverState = λ b q. cond b (made_state round s (with_peer s q d)) (settled_if_answered (carried_out round s d.stage (with_peer s q d))) in
+        let End : Bool → PeerState → DriverState = λ b q. cond b (made_state round s (with_peer s q d)) (settled_if_answered round (carried_out round s d.stage (with_peer s q d))) in
         go p.behind refl some none f
       where
         go : (o : Option ℕ) → (peer_at d s).behind ≡ o → is_some (peer_at d s).asked ≡ true → (peer_at d s).channel.outstanding ≡ None → Follows d
             → Follows (cond (is_some (peer_at d s).behind) (made_state (running_round rounds d.stage) s (with_peer s (answers (peer_at d s)) d))
-            (settled_if_answered (carried_out (running_round rounds d.stage) s d.stage (with_peer s (answers (peer_at d s)) d))))
+            (settled_if_answered (running_round rounds d.stage) (carried_out (running_round rounds d.stage) s d.stage (with_peer s (answers (peer_at d s)) d))))
         go None alone some none f =
             let q = without_request (peer_at d s) in
-            let E : Bool → PeerState → DriverState = λ b r. cond b (made_state (running_round rounds d.stage) s (with_peer s r d)) (settled_if_answered (carried_out (running_round rounds d.stage) s d.stage (with_peer s r d))) in
+            let E : Bool → PeerState → DriverState = λ b r. cond b (made_state (running_round rounds d.stage) s (with_peer s r d)) (settled_if_answered (running_round rounds d.stage) (carried_out (running_round rounds d.stage) s d.stage (with_peer s r d))) in
             let same : E (is_some (peer_at d s).behind) (answers (peer_at d s)) ≡ E false q = ap (λ b. E b (answers (peer_at d s))) (ap is_some alone) ∙ ap (E false) (answers_last (peer_at d s) alone) in
-            subst Follows (sym same) (follows_if_answered (carried_out (running_round rounds d.stage) s d.stage (with_peer s q d)) (last_answer d.stage refl some none alone f))
+            subst Follows (sym same) (follows_if_answered (running_round rounds d.stage) (carried_out (running_round rounds d.stage) s d.stage (with_peer s q d))
+            (ap (running_round rounds) (sym (carried_stage (running_round rounds d.stage) s d.stage (with_peer s q d) refl))) (last_answer d.stage refl some none alone f))
         go (Some x) more some none f =
             let q : PeerState = record (peer_at d s) { channel = after_request [] x (peer_at d s).channel; behind = None } in
-            let E : Bool → PeerState → DriverState = λ b r. cond b (made_state (running_round rounds d.stage) s (with_peer s r d)) (settled_if_answered (carried_out (running_round rounds d.stage) s d.stage (with_peer s r d))) in
+            let E : Bool → PeerState → DriverState = λ b r. cond b (made_state (running_round rounds d.stage) s (with_peer s r d)) (settled_if_answered (running_round rounds d.stage) (carried_out (running_round rounds d.stage) s d.stage (with_peer s r d))) in
             let same : E (is_some (peer_at d s).behind) (answers (peer_at d s)) ≡ E true q = ap (λ b. E b (answers (peer_at d s))) (ap is_some more) ∙ ap (E true) (answers_more (peer_at d s) x more) in
             subst Follows (sym same) (more_answer d.stage x refl some more f)
 
   -- ---- a session opens
 
-  fits_again : (stage : Stage) (changed flag : Bool) (x : ℕ) (p : PeerState) → p.asked ≡ Some x → PeerFits stage changed p flag → PeerFits stage changed (asks_again x p) flag
-  fits_again (Settled k) changed flag x p is fit = absurd (let g : Some x ≡ None = sym is ∙ fit.waits in cc)
-  fits_again (Onward k) changed flag x p is fit = record { free = λ e. absurd (let g : Some x ≡ None = sym is ∙ e in cc); waits = (refl, fit.waits.1, fit.waits.2) }
-  fits_again (Undone k) changed flag x p is fit = record { free = λ e. absurd (let g : Some x ≡ None = sym is ∙ e in cc); waits = ((λ t. let g : false ≡ true = t in absurd (cc)), fit.waits.1) }
-
-  follows_opened : (changes : List Change) (s : SwitchId) (d : DriverState) → s.0 < switch_count net → Follows d → Follows (opened_state net changes s d)
+  follows_opened : (changes : List Change) (s : SwitchId) (d : DriverState) → s.0 < switch_count net → (peer_at d s).is_dead ≡ false → Follows d → Follows (opened_state net changes s d)
   unfolding opened_state
-  follows_opened changes s d here f = go (peer_at d s).asked refl
+  follows_opened changes s d here alive f = go (peer_at d s).asked refl
     where
       go : (o : Option ℕ) → (peer_at d s).asked ≡ o → Follows (option_map_or (λ x. sent_again net changes s x d) o d)
       go None e = f
       go (Some x) e =
           follows_says (with_peer s (asks_again x (peer_at d s)) d) (sends (is_to s) (batch_of net d.first changes)) (sends_no_event (is_to s) (batch_of net d.first changes))
-          (follows_peer d s (asks_again x (peer_at d s)) here (fits_again d.stage (changed_in d.stage s) (get_or d.in_force s.0 false) x (peer_at d s) e (f.fits s here)) f)
+          (follows_peer d s (asks_again x (peer_at d s)) here (fits_again d.stage (changed_in d.stage s) (get_or d.in_force s.0 false) x (peer_at d s) e alive (f.fits s here)) f)
 
   -- ---- a byte
 
@@ -476,7 +416,7 @@ module _ (net : Network) (rounds inverses : List (List Change)) (old : List (Lis
   kept_outstanding before after =
       cond_both (ltb (length before.sent) (length after.sent)) _ after (λ (c : ChannelState). c.outstanding ≡ after.outstanding) (λ e. refl) (λ e. refl)
 
-  module _ (d : DriverState) (s : SwitchId) (here : s.0 < switch_count net) (b : ℕ) (f : Follows d) where
+  module _ (d : DriverState) (s : SwitchId) (here : s.0 < switch_count net) (b : ℕ) (f : Follows d) (alive : (peer_at d s).is_dead ≡ false) where
     abbrev p : PeerState
     p = peer_at d s
 
@@ -494,6 +434,7 @@ module _ (net : Network) (rounds inverses : List (List Change)) (old : List (Lis
           let (none, alone) = fit.free e in
           (kept_outstanding (peer_at d s).channel (after_byte b (peer_at d s).channel) ∙ elim (keeps_barrier (b ∷ []) (peer_at d s).channel) [ inl same ↦ same ∙ none | inr gone ↦ gone ], alone);
       waits = waits_q stage changed flag fit.waits;
+      gone = λ t. absurd (never (sym alive ∙ t));
     }
       where
         waits_q : (stage : Stage) (changed flag : Bool) → PeerWaits stage changed (peer_at d s) flag → PeerWaits stage changed (record (peer_at d s) { channel = kept_of (peer_at d s).channel (after_byte b (peer_at d s).channel) }) flag
@@ -536,9 +477,13 @@ module _ (net : Network) (rounds inverses : List (List Change)) (old : List (Lis
     broke Open = follows_e
     broke (session.Failed c) = follows_says (with_peer s (peer_after b (peer_at d s)) d) (Failed s c ∷ []) refl follows_e
 
-    pub follows_byte : Follows (fed_byte net rounds inverses s b d)
-    unfolding fed_byte heard_of
-    follows_byte =
+    q_alive : (peer_at (with_peer s (peer_after b (peer_at d s)) d) s).is_dead ≡ false
+    unfolding peer_after
+    q_alive = ap (λ (r : PeerState). r.is_dead) seen ∙ alive
+
+    pub follows_heard : Follows (heard_byte net rounds inverses s b d)
+    unfolding heard_of
+    follows_heard =
         let ch = (peer_at d s).channel in
         let after = after_byte b ch in
         let e = with_peer s (peer_after b (peer_at d s)) d in
@@ -547,25 +492,33 @@ module _ (net : Network) (rounds inverses : List (List Change)) (old : List (Lis
         let reply = cond (ltb (length ch.sent) (length after.sent)) (Replied (drop (length ch.sent) after.sent)) quiet in
         let opening = cond (is_open after.session && not (is_open ch.session)) Opened reply in
         cond_both (is_some ch.outstanding && is_none after.outstanding) Answered opening Hears hit
-        (λ _. cond_both (is_open after.session && not (is_open ch.session)) Opened reply Hears (λ _. follows_opened (asked_round rounds inverses d.stage) s e here follows_e)
+        (λ _. cond_both (is_open after.session && not (is_open ch.session)) Opened reply Hears (λ _. follows_opened (asked_round rounds inverses d.stage) s e here q_alive follows_e)
         (λ _. cond_both (ltb (length ch.sent) (length after.sent)) (Replied (drop (length ch.sent) after.sent)) quiet Hears (λ _. follows_says e (Send s (drop (length ch.sent) after.sent) ∷ []) refl follows_e)
         (λ _. cond_both (is_failed ch.session) Nothing failure Hears (λ _. follows_e) (λ _. broke after.session))))
 
+  follows_byte : (s : SwitchId) (b : ℕ) (d : DriverState) → s.0 < switch_count net → Follows d → Follows (fed_byte net rounds inverses s b d)
+  unfolding fed_byte
+  follows_byte s b d here f = cond_both (peer_at d s).is_dead d (heard_byte net rounds inverses s b d) Follows (λ _. f) (λ alive. follows_heard d s here b f alive)
+
   follows_fed : (s : SwitchId) (bytes : List ℕ) (d : DriverState) → s.0 < switch_count net → Follows d → Follows (state_after_bytes net rounds inverses s bytes d)
   follows_fed s [] d here f = f
-  follows_fed s (b ∷ bytes) d here f = follows_fed s bytes (fed_byte net rounds inverses s b d) here (follows_byte d s here b f)
+  follows_fed s (b ∷ bytes) d here f = follows_fed s bytes (fed_byte net rounds inverses s b d) here (follows_byte s b d here f)
 
   -- ---- a session is opened again
-
-  fits_reopened : (stage : Stage) (changed flag : Bool) (p : PeerState) → PeerFits stage changed p flag → PeerFits stage changed (reopened_peer p) flag
-  fits_reopened (Settled k) changed flag p fit = record { free = λ e. (refl, refl); waits = fit.waits }
-  fits_reopened (Onward k) changed flag p fit = record { free = λ e. (refl, refl); waits = (refl, fit.waits.1, fit.waits.2) }
-  fits_reopened (Undone k) changed flag p fit = record { free = λ e. (refl, refl); waits = ((λ t. let g : false ≡ true = t in absurd (cc)), fit.waits.1) }
 
   follows_reopened : (s : SwitchId) (d : DriverState) → s.0 < switch_count net → Follows d → Follows (reopened_driver s d)
   follows_reopened s d here f =
       follows_says (with_peer s (reopened_peer (peer_at d s)) d) (Send s hello ∷ []) refl
       (follows_peer d s (reopened_peer (peer_at d s)) here (fits_reopened d.stage (changed_in d.stage s) (get_or d.in_force s.0 false) (peer_at d s) (f.fits s here)) f)
+
+  -- ---- a switch died
+
+  follows_dead : (s : SwitchId) (d : DriverState) → s.0 < switch_count net → Follows d → Follows (dead_driver rounds s d)
+  follows_dead s d here f =
+      let e = with_peer s (dead_peer (peer_at d s)) d in
+      cond_both (peer_at d s).is_dead d (settled_if_answered (running_round rounds d.stage) e) Follows (λ _. f)
+      (λ _. follows_if_answered (running_round rounds d.stage) e refl
+      (follows_peer d s (dead_peer (peer_at d s)) here (fits_dead d.stage (changed_in d.stage s) (get_or d.in_force s.0 false) (peer_at d s) (f.fits s here)) f))
 
   -- ---- a round begins to run in a way
 
@@ -586,16 +539,6 @@ module _ (net : Network) (rounds inverses : List (List Change)) (old : List (Lis
         | inr off ↦ subst (Fit (changed_in stage s)) (sym (is ∙ ap (λ b. asks_if b y p) off)) (subst (λ b. Fit b p) (sym off) (without s within off))
       ]
 
-  -- a switch to which nothing is outstanding has nothing behind what it is asked
-  alone_behind : (y : ℕ) (p : PeerState) → p.channel.outstanding ≡ None → p.behind ≡ None → (asks y p).behind ≡ None
-  alone_behind y p none alone = elim (asks_behind y p alone) [ inl e ↦ e | inr t ↦ absurd (none_some p.channel.outstanding t none) ]
-
-  not_asked : (y : ℕ) (p : PeerState) → (asks y p).asked ≡ None → ⊥
-  not_asked y p e = let g : Some y ≡ None = sym (asks_asked y p) ∙ e in cc
-
-  never : false ≡ true → ⊥
-  never e = cc
-
   follows_start : (k : ℕ) (d : DriverState) → k < length rounds → Follows (record d { stage = Settled k }) → Follows (started_with net (round_after k rounds) k (record d { stage = Settled k }))
   unfolding sent_out
   follows_start k d less f =
@@ -612,7 +555,7 @@ module _ (net : Network) (rounds inverses : List (List Change)) (old : List (Lis
       let peers = f.peers in
       let off : (n : ℕ) → n < switch_count net → get_or (replicate count false) n false ≡ false = λ n lt. get_replicate count n false (omega arith) in
       let e = sent_out net round (Onward k) (flagged_state false (with_said (Log logged.Start ∷ []) (record d { stage = Settled k }))) in
-      follows_if_answered e (record {
+      follows_if_answered round e refl (record {
         state = next;
         reaches = says net rounds old good (d.said ++ Log logged.Start ∷ []) (sends (is_to_open d.peers) (batch_of net d.next round)) next (sends_no_event (is_to_open d.peers) (batch_of net d.next round))
             (logs net rounds old good d.said st logged.Start f.reaches may);
@@ -622,9 +565,9 @@ module _ (net : Network) (rounds inverses : List (List Change)) (old : List (Lis
             (got_replicate round i c false at ∙ ap Some (sym (off (switch_of c).0 (in_net k i c at))));
         fits = asked_fits (Onward k) round (xid_behind d.next (length round)) d.peers (replicate count false) f.peers (λ s. refl)
             (λ s within y on. let fit = f.fits s within in let (none, alone) = fit.free fit.waits in
-            fits_asked (Onward k) true (get_or (replicate count false) s.0 false) y (get_or d.peers s.0 first_peer)
+            fits_asked (Onward k) true (get_or (replicate count false) s.0 false) y (get_or d.peers s.0 first_peer) fit.gone
             (alone_behind y (get_or d.peers s.0 first_peer) none alone, (λ t. off s.0 within), (λ t g. absurd (not_asked y (get_or d.peers s.0 first_peer) g))))
-            (λ s within off_here. let fit = f.fits s within in let (none, alone) = fit.free fit.waits in record { free = fit.free; waits = (alone, (λ t. off s.0 within), (λ t g. absurd (never t))) });
+            (λ s within off_here. let fit = f.fits s within in let (none, alone) = fit.free fit.waits in record { free = fit.free; waits = (alone, (λ t. off s.0 within), (λ t g. absurd (never t))); gone = fit.gone });
         peers = length-asked (xid_behind d.next (length round)) round 0 d.peers ∙ f.peers;
         flags = length-replicate count false ∙ f.peers;
         within = less;
@@ -633,7 +576,7 @@ module _ (net : Network) (rounds inverses : List (List Change)) (old : List (Lis
   same_switches : (k : ℕ) (s : SwitchId) → is_changed (round_after k inverses) s ≡ is_changed (round_after k rounds) s
   same_switches k s = turnable.same k s
 
-  follows_undo : (k : ℕ) (d : DriverState) → k < length rounds → Follows (record d { stage = Settled (suc k) }) → Follows (undone_with net (round_after k inverses) k (record d { stage = Settled (suc k) }))
+  follows_undo : (k : ℕ) (d : DriverState) → k < length rounds → Follows (record d { stage = Settled (suc k) }) → Follows (undone_with net (round_after k rounds) (round_after k inverses) k (record d { stage = Settled (suc k) }))
   unfolding sent_out
   follows_undo k d less f =
       let round = round_after k rounds in
@@ -649,7 +592,7 @@ module _ (net : Network) (rounds inverses : List (List Change)) (old : List (Lis
       let peers = f.peers in
       let on : (n : ℕ) → n < switch_count net → get_or (replicate count true) n false ≡ true = λ n lt. get_replicate count n true (omega arith) in
       let e = sent_out net changes (Undone k) (flagged_state true (with_said (Log logged.Back ∷ []) (record d { stage = Settled (suc k) }))) in
-      follows_if_answered e (record {
+      follows_if_answered round e refl (record {
         state = next;
         reaches = says net rounds old good (d.said ++ Log logged.Back ∷ []) (sends (is_to_open d.peers) (batch_of net d.next changes)) next (sends_no_event (is_to_open d.peers) (batch_of net d.next changes))
             (logs net rounds old good d.said st logged.Back f.reaches may);
@@ -659,21 +602,21 @@ module _ (net : Network) (rounds inverses : List (List Change)) (old : List (Lis
             (got_replicate round i c true at ∙ ap Some (sym (on (switch_of c).0 (in_net k i c at))));
         fits = asked_fits (Undone k) changes (xid_behind d.next (length changes)) d.peers (replicate count true) f.peers (same_switches k)
             (λ s within y t. let fit = f.fits s within in let (none, alone) = fit.free fit.waits in
-            fits_asked (Undone k) true (get_or (replicate count true) s.0 false) y (get_or d.peers s.0 first_peer)
+            fits_asked (Undone k) true (get_or (replicate count true) s.0 false) y (get_or d.peers s.0 first_peer) fit.gone
             ((λ g. absurd (none_some (asks y (get_or d.peers s.0 first_peer)).behind g (alone_behind y (get_or d.peers s.0 first_peer) none alone))), (λ h g. absurd (not_asked y (get_or d.peers s.0 first_peer) g))))
             (λ s within off_here. let fit = f.fits s within in let (none, alone) = fit.free fit.waits in
-            record { free = fit.free; waits = ((λ g. absurd (none_some (get_or d.peers s.0 first_peer).behind g alone)), (λ t g. absurd (never t))) });
+            record { free = fit.free; waits = ((λ g. absurd (none_some (get_or d.peers s.0 first_peer).behind g alone)), (λ t g. absurd (never t))); gone = fit.gone });
         peers = length-asked (xid_behind d.next (length changes)) changes 0 d.peers ∙ f.peers;
         flags = length-replicate count true ∙ f.peers;
         within = less;
       })
 
-  follows_turn : (k : ℕ) (d : DriverState) → Follows (record d { stage = Onward k }) → Follows (turned_with net (round_after k inverses) k (record d { stage = Onward k }))
+  follows_turn : (k : ℕ) (d : DriverState) → Follows (record d { stage = Onward k }) → Follows (turned_with net (round_after k rounds) (round_after k inverses) k (record d { stage = Onward k }))
   unfolding sent_out
   follows_turn k d f =
       let changes = round_after k inverses in
       let e = sent_out net changes (Undone k) (record d { stage = Onward k }) in
-      follows_if_answered e (record {
+      follows_if_answered (round_after k rounds) e refl (record {
         state = f.state;
         reaches = says net rounds old good d.said (sends (is_to_open d.peers) (batch_of net d.next changes)) f.state (sends_no_event (is_to_open d.peers) (batch_of net d.next changes)) f.reaches;
         phase = f.phase;
@@ -681,7 +624,7 @@ module _ (net : Network) (rounds inverses : List (List Change)) (old : List (Lis
         in_force = f.in_force;
         fits = asked_fits (Undone k) changes (xid_behind d.next (length changes)) d.peers d.in_force f.peers (same_switches k)
             (λ s within y t. let fit = f.fits s within in
-            fits_asked (Undone k) true (get_or d.in_force s.0 false) y (get_or d.peers s.0 first_peer) (
+            fits_asked (Undone k) true (get_or d.in_force s.0 false) y (get_or d.peers s.0 first_peer) fit.gone (
               (λ g. elim (asks_behind y (get_or d.peers s.0 first_peer) fit.waits.0) [
                 | inl none ↦ absurd (none_some (asks y (get_or d.peers s.0 first_peer)).behind g none)
                 | inr out ↦ fit.waits.1 (outstanding_waits (get_or d.peers s.0 first_peer) fit.free out)
@@ -689,7 +632,7 @@ module _ (net : Network) (rounds inverses : List (List Change)) (old : List (Lis
               (λ h g. absurd (not_asked y (get_or d.peers s.0 first_peer) g)),
             ))
             (λ s within off_here. let fit = f.fits s within in
-            record { free = fit.free; waits = ((λ g. absurd (none_some (get_or d.peers s.0 first_peer).behind g fit.waits.0)), (λ t g. absurd (never t))) });
+            record { free = fit.free; waits = ((λ g. absurd (none_some (get_or d.peers s.0 first_peer).behind g fit.waits.0)), (λ t g. absurd (never t))); gone = fit.gone });
         peers = length-asked (xid_behind d.next (length changes)) changes 0 d.peers ∙ f.peers;
         flags = f.flags;
         within = f.within;
@@ -711,7 +654,7 @@ module _ (net : Network) (rounds inverses : List (List Change)) (old : List (Lis
   starts (Onward k) d none f = f
   starts (Undone k) d none f = f
 
-  turns : (stage : Stage) (d : DriverState) → Follows (record d { stage = stage }) → Follows (turned_in net inverses stage (record d { stage = stage }))
+  turns : (stage : Stage) (d : DriverState) → Follows (record d { stage = stage }) → Follows (turned_in net rounds inverses stage (record d { stage = stage }))
   turns (Settled zero) d f = f
   turns (Settled (suc k)) d f = follows_undo k d (let le : suc k ≤ length rounds = f.within in omega arith) f
   turns (Onward k) d f = follows_turn k d f
@@ -726,10 +669,11 @@ module _ (net : Network) (rounds inverses : List (List Change)) (old : List (Lis
       cond_both (is_none (start_fault (view d))) (with_state (started_in net rounds d.stage d) (view d)) (view d) OnView
       (λ e. (started_in net rounds d.stage d, refl, starts d.stage d (none_is (start_fault (view d)) e) f)) (λ e. (d, refl, f))
   follows_call d Back ok f =
-      cond_both (is_none (back_fault (view d))) (with_state (turned_in net inverses d.stage d) (view d)) (view d) OnView
-      (λ e. (turned_in net inverses d.stage d, refl, turns d.stage d f)) (λ e. (d, refl, f))
+      cond_both (is_none (back_fault (view d))) (with_state (turned_in net rounds inverses d.stage d) (view d)) (view d) OnView
+      (λ e. (turned_in net rounds inverses d.stage d, refl, turns d.stage d f)) (λ e. (d, refl, f))
   follows_call d (Reopen s) ok f = (reopened_driver s d, refl, follows_reopened s d ok f)
   follows_call d (Feed s bytes) ok f = (state_after_bytes net rounds inverses s bytes d, refl, follows_fed s bytes d ok f)
+  follows_call d (Dead s) ok f = (dead_driver rounds s d, refl, follows_dead s d ok f)
 
   follows_calls : (w : DriverView) (calls : List Call) → AllByRecursion (IsCall net) calls → OnView w → OnView (after_calls w calls)
   follows_calls w [] ok on = on
@@ -749,7 +693,7 @@ module _ (net : Network) (rounds inverses : List (List Change)) (old : List (Lis
         phase = refl;
         packets = refl;
         in_force = tt;
-        fits = λ s within. subst (λ p. PeerFits (Settled 0) (changed_in (Settled 0) s) p (get_or (replicate (switch_count net) false) s.0 false)) (sym (first_at (switch_count net) s.0)) (record { free = λ e. (refl, refl); waits = refl });
+        fits = λ s within. subst (λ p. PeerFits (Settled 0) (changed_in (Settled 0) s) p (get_or (replicate (switch_count net) false) s.0 false)) (sym (first_at (switch_count net) s.0)) (record { free = λ e. (refl, refl); waits = refl; gone = λ t. absurd (never t) });
         peers = length-replicate (switch_count net) first_peer;
         flags = length-replicate (switch_count net) false;
         within = omega arith;

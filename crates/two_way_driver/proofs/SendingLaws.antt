@@ -1,14 +1,13 @@
 -- What is sent to a switch: by each call, and in all.
-use Rattle.std.proofs.Common.{◌≡◌, ◌≢◌, ℕ, zero, suc, ◌+◌, ◌<◌, ◌≤◌, Bool, true, false, cond, eqb, ltb, ◌&&◌, List, [], ◌∷◌, ◌++◌, length, map, take, drop, replicate, set, get_or, get_or-set_same, refl, sym, ap, ◌∙◌, subst, inl, inr, append_assoc, append-nil, length-set, arith}
-use Rattle.std.specs.Prelude.{Option, Some, None, is_some, is_none, filter, flat_map}
+use Rattle.std.proofs.Common.{◌≡◌, ◌≢◌, ℕ, zero, suc, ◌+◌, ◌<◌, ◌≤◌, Bool, true, false, cond, eqb, ltb, List, [], ◌∷◌, ◌++◌, length, map, take, drop, replicate, set, get_or, get_or-set_same, get_or-set_other, refl, sym, ap, ◌∙◌, subst, inl, inr, append_assoc, append-nil, length-set, arith}
+use Rattle.std.specs.Prelude.{Option, Some, None, is_some, is_none, flat_map}
 use Rattle.std.specs.List.{AllByRecursion, cons_option}
 use Rattle.std.specs.Option.{option_map_or}
-use Rattle.std.proofs.lemmas.Bool.{cases_Bool, cases_eq, cond_both, eqb-true, eq-eqb, ne_eqb, le-ltb}
-use Rattle.std.proofs.lemmas.List.{length-replicate, map-append, drop_at, take_at}
-use Rattle.std.proofs.lemmas.List.Elements.{filter_map-append}
+use Rattle.std.proofs.lemmas.Bool.{cases_Bool, cases_eq, cond_both, cond-true, cond-false, eqb-true, eq-eqb, ne_eqb, le-ltb}
+use Rattle.std.proofs.lemmas.List.{length-replicate, length-map, map-append, drop_at, take_at}
 use Rattle.net_base.specs.declared.ids.SwitchId.{SwitchId}
 use Rattle.topology.specs.Networks.{Network, switch_count}
-use Rattle.update_model.specs.Changes.{switch_of, round_after}
+use Rattle.update_model.specs.Changes.{round_after}
 use Rattle.update_model.specs.declared.Change.{Change}
 use Rattle.round_messages.specs.Requests.{is_changed, switch_numbered}
 use Rattle.switch_session.specs.Fronts.{front_of, type_in}
@@ -22,17 +21,15 @@ use Rattle.switch_session.proofs.FrontLaws.{fault_grows, message_grows}
 use Rattle.switch_session.proofs.RequestLaws.{requests_as, requests_failed, requests_both, reads_bytes}
 use Rattle.switch_session.proofs.TalkLaws.{front_nil}
 use Rattle.turned_rounds.specs.Batches.{next_if, xid_behind, batch_of}
-use Rattle.turned_rounds.specs.declared.outgoing.Outgoing.{Outgoing}
 use Rattle.two_way_driver.specs.PeerStates.{PeerState}
-use Rattle.two_way_driver.specs.Peers.{first_peer, opened_anew, heard_by, kept_of, peer_after, queued_peer, asks, asks_again, answers, reopened_peer}
-use Rattle.two_way_driver.specs.Drivers.{DriverState, peer_at, with_peer, with_said, send_if, sends, is_to_open, is_to, asked_from, sent_out, settled_in, all_answered, settled_if_answered, log_if, change_notes, undo_notes, made_state, undone_state, carried_out, answered_state, sent_again, opened_state, running_round, asked_round, heard_state, fed_byte, state_after_bytes, first_words, first_driver, flagged_state, started_in, turned_in, reopened_driver}
+use Rattle.two_way_driver.specs.Peers.{first_peer, opened_anew, heard_by, kept_of, peer_after, queued_peer, asks, asks_again, answers, reopened_peer, dead_peer, settled_peer}
+use Rattle.two_way_driver.specs.Drivers.{DriverState, peer_at, with_peer, with_said, sends, is_to_open, is_to, asked_from, sent_out, settled_in, all_answered, settled_if_answered, undo_notes, is_change_at, made_state, undone_state, carried_out, answered_state, sent_again, opened_state, running_round, asked_round, heard_state, heard_byte, fed_byte, state_after_bytes, first_words, first_driver, flagged_state, started_in, turned_in, reopened_driver, dead_driver}
 use Rattle.two_way_driver.specs.Calls.{DriverView, with_state, silent_view, start_fault, back_fault, started_view, turned_view}
-use Rattle.two_way_driver.specs.Laws.{Call, Start, Back, Reopen, Feed, IsCall, after_call, after_calls, driver_after}
+use Rattle.two_way_driver.specs.Laws.{Call, Start, Back, Reopen, Feed, Dead, IsCall, after_call, after_calls, driver_after}
 use Rattle.two_way_driver.specs.Words.{after_call_anew, said_by_each, joined_words}
-use Rattle.two_way_driver.specs.Sending.{text_to, texts_to, texts_for, session_at, start_asks, back_asks, asking_messages, unanswered_messages, HasHello, Answers, Sends}
+use Rattle.two_way_driver.specs.Sending.{texts_to, texts_for, session_at, start_asks, back_asks, asked_by, asking_messages, unanswered_messages, HasHello, Answers, Sends}
 use Rattle.two_way_driver.specs.declared.Stage.{Stage}
 use Rattle.two_way_driver.specs.declared.Stage.TheVariants.{Settled, Onward, Undone}
-use Rattle.two_way_driver.specs.declared.DriverEvent.{DriverEvent}
 use Rattle.two_way_driver.specs.declared.DriverEvent.TheVariants as logged
 use Rattle.two_way_driver.specs.declared.DriverOutput.{DriverOutput}
 use Rattle.two_way_driver.specs.declared.DriverOutput.TheVariants.{Send, Log}
@@ -43,171 +40,43 @@ use Rattle.two_way_driver.proofs.ReplyLaws.{only_reply}
 use Rattle.two_way_driver.proofs.ServingLaws.{length-asked}
 use Rattle.two_way_driver.proofs.WordLaws.{calls_said}
 use Rattle.two_way_driver.proofs.AnswerLaws.{HeardAs, IsPastHello, no_requests, heard_open, still_waits, nothing_heard, Breaks, breaks_at_fault, breaks_at_other, opens, opened_heard, ended, none_left, failed_byte_is, failed_hears_nothing}
-
--- ---- words that send nothing to a switch
-
-module _ (s : SwitchId) where
-  pub texts-append : (a b : List DriverOutput) → texts_to s (a ++ b) ≡ texts_to s a ++ texts_to s b
-  texts-append a b = filter_map-append (text_to s) a b
-
-  pub quiet : (a b : List DriverOutput) → texts_to s b ≡ [] → texts_to s (a ++ b) ≡ texts_to s a
-  quiet a b none = texts-append a b ∙ ap (λ (l : List (List ℕ)). texts_to s a ++ l) none ∙ append-nil (texts_to s a)
-
-  log_quiet : (on : Bool) (e : DriverEvent) → texts_to s (log_if on e) ≡ []
-  log_quiet true e = refl
-  log_quiet false e = refl
-
-  pub changes_quiet : (t : SwitchId) (i : ℕ) (changes : List Change) → texts_to s (change_notes t i changes) ≡ []
-  changes_quiet t i [] = refl
-  changes_quiet t i (c ∷ changes) =
-      let one = log_if (eqb (switch_of c).0 t.0) (logged.Change i) in
-      texts-append one (change_notes t (suc i) changes) ∙ ap (λ (l : List (List ℕ)). l ++ texts_to s (change_notes t (suc i) changes)) (log_quiet (eqb (switch_of c).0 t.0) (logged.Change i))
-      ∙ changes_quiet t (suc i) changes
-
-  undos_quiet : (t : SwitchId) (i : ℕ) (changes : List Change) → texts_to s (undo_notes t i changes) ≡ []
-  undos_quiet t i [] = refl
-  undos_quiet t i (c ∷ changes) =
-      let one = log_if (eqb (switch_of c).0 t.0) (logged.Undo i) in
-      quiet (undo_notes t (suc i) changes) one (log_quiet (eqb (switch_of c).0 t.0) (logged.Undo i)) ∙ undos_quiet t (suc i) changes
-
-  -- a step sends nothing to the switch
-  abbrev Quiet : DriverState → DriverState → Type 0
-  Quiet d e = texts_to s e.said ≡ texts_to s d.said
-
-  pub settled_quiet : (stage : Stage) (d : DriverState) → Quiet d (settled_in stage d)
-  unfolding settled_in
-  settled_quiet (Settled k) d = refl
-  settled_quiet (Onward k) d = quiet d.said (Log logged.Settle ∷ []) refl
-  settled_quiet (Undone k) d = quiet d.said (Log logged.SettleBack ∷ []) refl
-
-  if_answered_quiet : (d : DriverState) → Quiet d (settled_if_answered d)
-  unfolding settled_if_answered
-  if_answered_quiet d = cond_both (all_answered d.peers) (settled_in d.stage d) d (Quiet d) (λ _. settled_quiet d.stage d) (λ _. refl)
-
-  made_quiet : (round : List Change) (t : SwitchId) (d : DriverState) → Quiet d (made_state round t d)
-  unfolding made_state
-  made_quiet round t d = quiet d.said (change_notes t 0 round) (changes_quiet t 0 round)
-
-  undone_quiet : (round : List Change) (t : SwitchId) (d : DriverState) → Quiet d (undone_state round t d)
-  unfolding undone_state
-  undone_quiet round t d =
-      cond_both (get_or d.in_force t.0 false) (record d { in_force = set d.in_force t.0 false; said = d.said ++ undo_notes t 0 round }) d (Quiet d)
-      (λ _. quiet d.said (undo_notes t 0 round) (undos_quiet t 0 round)) (λ _. refl)
-
-  carried_quiet : (round : List Change) (t : SwitchId) (stage : Stage) (d : DriverState) → Quiet d (carried_out round t stage d)
-  carried_quiet round t (Settled k) d = refl
-  carried_quiet round t (Onward k) d = made_quiet round t d
-  carried_quiet round t (Undone k) d = undone_quiet round t d
-
-  answered_quiet : (round : List Change) (t : SwitchId) (d : DriverState) → Quiet d (answered_state round t d)
-  unfolding answered_state
-  answered_quiet round t d =
-      let e = with_peer t (answers (peer_at d t)) d in
-      cond_both (is_some (peer_at d t).behind) (made_state round t e) (settled_if_answered (carried_out round t e.stage e)) (Quiet d) (λ _. made_quiet round t e)
-      (λ _. if_answered_quiet (carried_out round t e.stage e) ∙ carried_quiet round t e.stage e)
-
-  -- ---- messages to a switch
-
-  -- one message, which is sent or not, and is to the switch or not
-  one_sent : (wanted here : Bool) (m : Outgoing) (rest : List DriverOutput) → is_to s m ≡ here → texts_to s (send_if wanted m ++ rest) ≡ cond (wanted && here) (m.text ∷ texts_to s rest) (texts_to s rest)
-  one_sent true here m rest e = ap (λ b. cons_option (cond b (Some m.text) None) (texts_to s rest)) e ∙ chosen here
-    where
-      chosen : (b : Bool) → cons_option (cond b (Some m.text) None) (texts_to s rest) ≡ cond b (m.text ∷ texts_to s rest) (texts_to s rest)
-      chosen true = refl
-      chosen false = refl
-  one_sent false here m rest e = refl
-
-  here_one : (b : Bool) (m : Outgoing) (ms : List Outgoing) (later : List (List ℕ)) → later ≡ map (λ (o : Outgoing). o.text) ms → cond (b && b) (m.text ∷ later) later ≡ map (λ (o : Outgoing). o.text) (cond b (m ∷ ms) ms)
-  here_one true m ms later e = ap (λ (l : List (List ℕ)). m.text ∷ l) e
-  here_one false m ms later e = e
-
-  texts_here : (ms : List Outgoing) → texts_to s (sends (is_to s) ms) ≡ texts_for s ms
-  texts_here [] = refl
-  texts_here (m ∷ ms) =
-      one_sent (is_to s m) (is_to s m) m (sends (is_to s) ms) refl ∙ here_one (is_to s m) m (filter (is_to s) ms) (texts_to s (sends (is_to s) ms)) (texts_here ms)
-
-  texts_away : (t : SwitchId) (ms : List Outgoing) → t.0 ≢ s.0 → texts_to s (sends (is_to t) ms) ≡ []
-  texts_away t [] ne = refl
-  texts_away t (m ∷ ms) ne =
-      let rest = texts_to s (sends (is_to t) ms) in
-      one_sent (is_to t m) (is_to s m) m (sends (is_to t) ms) refl
-      ∙ elim (cases_Bool (is_to t m)) [
-        | inl there ↦ ap (λ b. cond (is_to t m && b) (m.text ∷ rest) rest) (ne_eqb m.switch.0 s.0 (λ e. ne (sym (eqb-true m.switch.0 t.0 there) ∙ e))) ∙ none (is_to t m) rest
-        | inr off ↦ ap (λ b. cond (b && is_to s m) (m.text ∷ rest) rest) off
-      ]
-      ∙ texts_away t ms ne
-    where
-      none : (b : Bool) (rest : List (List ℕ)) → cond (b && false) (m.text ∷ rest) rest ≡ rest
-      none true rest = refl
-      none false rest = refl
-
-  open_one : (text : List ℕ) (later others : List (List ℕ)) (wanted here open_now : Bool) → (here ≡ true → wanted ≡ open_now) → later ≡ cond open_now others []
-      → cond (wanted && here) (text ∷ later) later ≡ cond open_now (cond here (text ∷ others) others) []
-  open_one text later others true true true same rest = ap (λ (l : List (List ℕ)). text ∷ l) rest
-  open_one text later others false true false same rest = rest
-  open_one text later others true true false same rest = absurd (let e : true ≡ false = same refl in cc)
-  open_one text later others false true true same rest = absurd (let e : false ≡ true = same refl in cc)
-  open_one text later others true false open_now same rest = rest
-  open_one text later others false false open_now same rest = rest
-
-  first_text : (here : Bool) (m : Outgoing) (ms : List Outgoing) → map (λ (o : Outgoing). o.text) (cond here (m ∷ ms) ms) ≡ cond here (m.text ∷ map (λ (o : Outgoing). o.text) ms) (map (λ (o : Outgoing). o.text) ms)
-  first_text true m ms = refl
-  first_text false m ms = refl
-
-  -- those to switches with open sessions: to this one all, or none
-  pub texts_open : (peers : List PeerState) (ms : List Outgoing) → texts_to s (sends (is_to_open peers) ms) ≡ cond (is_open (get_or peers s.0 first_peer).channel.session) (texts_for s ms) []
-  texts_open peers [] = none (is_open (get_or peers s.0 first_peer).channel.session)
-    where
-      none : (b : Bool) → [] ≡ cond b (map (λ (o : Outgoing). o.text) []) []
-      none true = refl
-      none false = refl
-  texts_open peers (m ∷ ms) =
-      one_sent (is_to_open peers m) (is_to s m) m (sends (is_to_open peers) ms) refl
-      ∙ open_one m.text (texts_to s (sends (is_to_open peers) ms)) (texts_for s ms) (is_to_open peers m) (is_to s m) (is_open (get_or peers s.0 first_peer).channel.session)
-      (λ e. ap (λ (n : ℕ). is_open (get_or peers n first_peer).channel.session) (eqb-true m.switch.0 s.0 e)) (texts_open peers ms)
-      ∙ ap (λ (l : List (List ℕ)). cond (is_open (get_or peers s.0 first_peer).channel.session) l []) (sym (first_text (is_to s m) m (filter (is_to s) ms)))
+use Rattle.two_way_driver.proofs.PeerLaws.{settled_at}
+use Rattle.two_way_driver.proofs.QuietLaws.{texts-append, quiet, Quiet, if_answered_quiet, answered_quiet, texts_here, texts_away, texts_open}
 
 -- ---- what stays of the peers
-
-settled_peers : (stage : Stage) (d : DriverState) → (settled_in stage d).peers ≡ d.peers
-unfolding settled_in
-settled_peers (Settled k) d = refl
-settled_peers (Onward k) d = refl
-settled_peers (Undone k) d = refl
-
-if_answered_peers : (d : DriverState) → (settled_if_answered d).peers ≡ d.peers
-unfolding settled_if_answered
-if_answered_peers d = cond_both (all_answered d.peers) (settled_in d.stage d) d (λ (e : DriverState). e.peers ≡ d.peers) (λ _. settled_peers d.stage d) (λ _. refl)
 
 carried_peers : (round : List Change) (t : SwitchId) (stage : Stage) (d : DriverState) → (carried_out round t stage d).peers ≡ d.peers
 unfolding made_state undone_state
 carried_peers round t (Settled k) d = refl
 carried_peers round t (Onward k) d = refl
 carried_peers round t (Undone k) d =
-    cond_both (get_or d.in_force t.0 false) (record d { in_force = set d.in_force t.0 false; said = d.said ++ undo_notes t 0 round }) d (λ (e : DriverState). e.peers ≡ d.peers) (λ _. refl) (λ _. refl)
-
-answered_peers : (round : List Change) (t : SwitchId) (d : DriverState) → (answered_state round t d).peers ≡ set d.peers t.0 (answers (peer_at d t))
-unfolding answered_state made_state
-answered_peers round t d =
-    let e = with_peer t (answers (peer_at d t)) d in
-    cond_both (is_some (peer_at d t).behind) (made_state round t e) (settled_if_answered (carried_out round t e.stage e)) (λ (x : DriverState). x.peers ≡ e.peers) (λ _. refl)
-    (λ _. if_answered_peers (carried_out round t e.stage e) ∙ carried_peers round t e.stage e)
+    cond_both (get_or d.in_force t.0 false) (record d { in_force = set d.in_force t.0 false; said = d.said ++ undo_notes (is_change_at t) 0 round }) d (λ (e : DriverState). e.peers ≡ d.peers) (λ _. refl) (λ _. refl)
 
 -- a channel with the same session and the same unread bytes
 record ReadsAs (a b : ChannelState) : Type 0 where
   session : b.session ≡ a.session
   unread : b.unread ≡ a.unread
 
--- a switch whose channel is as that of another, but for what was asked
-abbrev Alike : PeerState → PeerState → Type 0
-Alike p q = ReadsAs p.channel q.channel
+-- a switch as another one, but for what was sent and asked
+record Alike (p q : PeerState) : Type 0 where
+  reads : ReadsAs p.channel q.channel
+  dead : q.is_dead ≡ p.is_dead
+
+alike_same : (p : PeerState) → Alike p p
+alike_same p = record { reads = record { session = refl; unread = refl }; dead = refl }
+
+alike_then : (p q r : PeerState) → Alike p q → Alike q r → Alike p r
+alike_then p q r a b =
+    let first = a.reads in
+    let behind = b.reads in
+    record { reads = record { session = behind.session ∙ first.session; unread = behind.unread ∙ first.unread }; dead = b.dead ∙ a.dead }
 
 alike_answers : (p : PeerState) → Alike p (answers p)
 unfolding answers
 alike_answers p =
     elim p.behind as (λ (o : Option ℕ). Alike p (option_map_or (λ x. record p { channel = after_request [] x p.channel; behind = None }) o (record p { asked = None }))) [
-      | None ↦ record { session = refl; unread = refl }
-      | Some x ↦ record { session = refl; unread = refl }
+      | None ↦ record { reads = record { session = refl; unread = refl }; dead = refl }
+      | Some x ↦ record { reads = record { session = refl; unread = refl }; dead = refl }
     ]
 
 alike_asks : (x : ℕ) (p : PeerState) → Alike p (asks x p)
@@ -216,37 +85,78 @@ alike_asks x p =
     let q : PeerState = record p { asked = Some x } in
     cond_both (is_open p.channel.session) (queued_peer x q) q (Alike p)
     (λ _. cond_both (is_some p.channel.outstanding) (record q { behind = Some x }) (record q { channel = after_request [] x p.channel }) (Alike p)
-    (λ _. record { session = refl; unread = refl }) (λ _. record { session = refl; unread = refl })) (λ _. record { session = refl; unread = refl })
+    (λ _. record { reads = record { session = refl; unread = refl }; dead = refl }) (λ _. record { reads = record { session = refl; unread = refl }; dead = refl }))
+    (λ _. record { reads = record { session = refl; unread = refl }; dead = refl })
 
--- what came of a byte leaves the peers, or puts one in place of that of the switch
-data Touched (s : SwitchId) (e d : DriverState) : Type 0 where
-  AsBefore : d.peers ≡ e.peers → Touched s e d
-  PutBack : (q : PeerState) → d.peers ≡ set e.peers s.0 q → Alike (peer_at e s) q → Touched s e d
+alike_again : (x : ℕ) (p : PeerState) → Alike p (asks_again x p)
+alike_again x p = record { reads = record { session = refl; unread = refl }; dead = refl }
+
+alike_settled : (p : PeerState) → Alike p (settled_peer p)
+alike_settled p = cond_both p.is_dead (record p { asked = None }) p (Alike p) (λ _. record { reads = record { session = refl; unread = refl }; dead = refl }) (λ _. alike_same p)
+
+-- each switch is as it was
+record AllAlike (old new : List PeerState) : Type 0 where
+  count : length new ≡ length old
+  each : (i : ℕ) → Alike (get_or old i first_peer) (get_or new i first_peer)
+
+all_same : (peers : List PeerState) → AllAlike peers peers
+all_same peers = record { count = refl; each = λ i. alike_same (get_or peers i first_peer) }
+
+all_then : (a b c : List PeerState) → AllAlike a b → AllAlike b c → AllAlike a c
+all_then a b c x y = record { count = y.count ∙ x.count; each = λ i. alike_then (get_or a i first_peer) (get_or b i first_peer) (get_or c i first_peer) (x.each i) (y.each i) }
+
+all_set : (peers : List PeerState) (n : ℕ) (q : PeerState) → n < length peers → Alike (get_or peers n first_peer) q → AllAlike peers (set peers n q)
+all_set peers n q less alike = record {
+  count = length-set peers n q;
+  each = λ i. elim (cases_eq i n) [
+    | inl same ↦ subst (λ (j : ℕ). Alike (get_or peers j first_peer) (get_or (set peers n q) j first_peer)) (sym same)
+        (subst (Alike (get_or peers n first_peer)) (sym (get_or-set_same peers n q first_peer less)) alike)
+    | inr differs ↦ subst (Alike (get_or peers i first_peer)) (sym (get_or-set_other peers n i q first_peer differs)) (alike_same (get_or peers i first_peer))
+  ];
+}
+
+all_settled : (peers : List PeerState) → AllAlike peers (map settled_peer peers)
+all_settled peers = record {
+  count = length-map peers settled_peer;
+  each = λ i. subst (Alike (get_or peers i first_peer)) (sym (settled_at peers i)) (alike_settled (get_or peers i first_peer));
+}
+
+settled_alike : (round : List Change) (stage : Stage) (d : DriverState) → AllAlike d.peers (settled_in round stage d).peers
+unfolding settled_in
+settled_alike round (Settled k) d = all_same d.peers
+settled_alike round (Onward k) d = all_settled d.peers
+settled_alike round (Undone k) d = all_settled d.peers
+
+if_answered_alike : (round : List Change) (d : DriverState) → AllAlike d.peers (settled_if_answered round d).peers
+unfolding settled_if_answered
+if_answered_alike round d =
+    cond_both (all_answered d.peers) (settled_in round d.stage d) d (λ (e : DriverState). AllAlike d.peers e.peers) (λ _. settled_alike round d.stage d) (λ _. all_same d.peers)
+
+answered_alike : (round : List Change) (t : SwitchId) (d : DriverState) → t.0 < length d.peers → AllAlike d.peers (answered_state round t d).peers
+unfolding answered_state made_state
+answered_alike round t d less =
+    let e = with_peer t (answers (peer_at d t)) d in
+    let c = carried_out round t e.stage e in
+    let put : AllAlike d.peers e.peers = all_set d.peers t.0 (answers (peer_at d t)) less (alike_answers (peer_at d t)) in
+    cond_both (is_some (peer_at d t).behind) (made_state round t e) (settled_if_answered round c) (λ (x : DriverState). AllAlike d.peers x.peers) (λ _. put)
+    (λ _. all_then d.peers e.peers (settled_if_answered round c).peers put
+    (subst (λ (l : List PeerState). AllAlike l (settled_if_answered round c).peers) (carried_peers round t e.stage e) (if_answered_alike round c)))
 
 module _ (net : Network) (rounds inverses : List (List Change)) (s : SwitchId) where
-  opened_touches : (changes : List Change) (e : DriverState) → Touched s e (opened_state net changes s e)
+  opened_alike : (changes : List Change) (e : DriverState) → s.0 < length e.peers → AllAlike e.peers (opened_state net changes s e).peers
   unfolding opened_state
-  opened_touches changes e =
-      elim (peer_at e s).asked as (λ (o : Option ℕ). Touched s e (option_map_or (λ x. sent_again net changes s x e) o e)) [
-        | None ↦ AsBefore refl
-        | Some x ↦ PutBack (asks_again x (peer_at e s)) refl (record { session = refl; unread = refl })
+  opened_alike changes e less =
+      elim (peer_at e s).asked as (λ (o : Option ℕ). AllAlike e.peers (option_map_or (λ x. sent_again net changes s x e) o e).peers) [
+        | None ↦ all_same e.peers
+        | Some x ↦ all_set e.peers s.0 (asks_again x (peer_at e s)) less (alike_again x (peer_at e s))
       ]
 
-  heard_touches : (came : ByteOutcome) (e : DriverState) → Touched s e (heard_state net rounds inverses s came e)
-  heard_touches Nothing e = AsBefore refl
-  heard_touches Opened e = opened_touches (asked_round rounds inverses e.stage) e
-  heard_touches Answered e = PutBack (answers (peer_at e s)) (answered_peers (running_round rounds e.stage) s e) (alike_answers (peer_at e s))
-  heard_touches (Replied text) e = AsBefore refl
-  heard_touches (Broke cause) e = AsBefore refl
-
-touched_length : (s : SwitchId) (e d : DriverState) → Touched s e d → length d.peers ≡ length e.peers
-touched_length s e d (AsBefore same) = ap length same
-touched_length s e d (PutBack q is alike) = ap length is ∙ length-set e.peers s.0 q
-
-touched_reads : (s : SwitchId) (e d : DriverState) → s.0 < length e.peers → Touched s e d → Alike (peer_at e s) (peer_at d s)
-touched_reads s e d less (AsBefore same) = subst (λ (l : List PeerState). Alike (peer_at e s) (get_or l s.0 first_peer)) (sym same) (record { session = refl; unread = refl })
-touched_reads s e d less (PutBack q is alike) =
-    subst (λ (l : List PeerState). Alike (peer_at e s) (get_or l s.0 first_peer)) (sym is) (subst (Alike (peer_at e s)) (sym (get_or-set_same e.peers s.0 q first_peer less)) alike)
+  heard_alike : (came : ByteOutcome) (e : DriverState) → s.0 < length e.peers → AllAlike e.peers (heard_state net rounds inverses s came e).peers
+  heard_alike Nothing e less = all_same e.peers
+  heard_alike Opened e less = opened_alike (asked_round rounds inverses e.stage) e less
+  heard_alike Answered e less = answered_alike (running_round rounds e.stage) s e less
+  heard_alike (Replied text) e less = all_same e.peers
+  heard_alike (Broke cause) e less = all_same e.peers
 
 -- ---- bytes that come from a switch, and what is sent to others
 
@@ -270,7 +180,7 @@ module _ (net : Network) (rounds inverses : List (List Change)) (t s : SwitchId)
   unfolding fed_byte
   byte_away b d =
       let p = peer_at d t in
-      heard_away (heard_by p.channel (after_byte b p.channel)) (with_peer t (peer_after b p) d)
+      cond_both p.is_dead d (heard_byte net rounds inverses t b d) (Quiet s d) (λ _. refl) (λ _. heard_away (heard_by p.channel (after_byte b p.channel)) (with_peer t (peer_after b p) d))
 
   fed_away : (bytes : List ℕ) (d : DriverState) → Quiet s d (state_after_bytes net rounds inverses t bytes d)
   fed_away [] d = refl
@@ -283,7 +193,7 @@ module _ (net : Network) (rounds inverses : List (List Change)) (s : SwitchId) w
   channel_of d = (peer_at d s).channel
 
   abbrev next : ℕ → DriverState → DriverState
-  next b d = fed_byte net rounds inverses s b d
+  next b d = heard_byte net rounds inverses s b d
 
   -- what wasn't answered
   abbrev again : DriverState → List (List ℕ)
@@ -340,16 +250,19 @@ module _ (net : Network) (rounds inverses : List (List Change)) (s : SwitchId) w
     unfolding peer_after
     put_asked = ap (λ (p : PeerState). p.asked) put_is
 
-    touches : Touched s put (next b d)
-    unfolding fed_byte
-    touches = heard_touches net rounds inverses s (heard_by (channel_of d) after) put
+    touches : AllAlike put.peers (next b d).peers
+    touches = heard_alike net rounds inverses s (heard_by (channel_of d) after) put (let count = put_count in omega arith)
 
     next_count : length (next b d).peers ≡ length d.peers
-    next_count = touched_length s put (next b d) touches ∙ put_count
+    next_count = touches.count ∙ put_count
+
+    next_dead : (peer_at (next b d) s).is_dead ≡ (peer_at d s).is_dead
+    unfolding peer_after
+    next_dead = (touches.each s.0).dead ∙ ap (λ (p : PeerState). p.is_dead) put_is
 
     next_reads : ReadsAs after (channel_of (next b d))
     next_reads =
-        let from = touched_reads s put (next b d) (let count = put_count in omega arith) touches in
+        let from = (touches.each s.0).reads in
         let first = put_reads in
         record { session = from.session ∙ first.session; unread = from.unread ∙ first.unread }
 
@@ -359,27 +272,48 @@ module _ (net : Network) (rounds inverses : List (List Change)) (s : SwitchId) w
         ap front_of seen.unread ∙ reads_bytes (b ∷ []) (channel_of d) reads (ap is_failed (sym seen.session) ∙ going)
 
     next_texts : (texts : List (List ℕ)) → HeardAs (heard_by (channel_of d) after) texts → texts_to s (next b d).said ≡ texts_to s d.said ++ texts
-    unfolding fed_byte
     next_texts texts seen = heard_texts (heard_by (channel_of d) after) texts put seen
 
     next_nothing : heard_by (channel_of d) after ≡ Nothing → next b d ≡ put
-    unfolding fed_byte
     next_nothing is = ap (λ (h : ByteOutcome). heard_state net rounds inverses s h put) is
 
     next_opened : heard_by (channel_of d) after ≡ Opened → texts_to s (next b d).said ≡ texts_to s d.said ++ again d
-    unfolding fed_byte
     next_opened is =
         ap (λ (h : ByteOutcome). texts_to s (heard_state net rounds inverses s h put).said) is ∙ opened_texts (asked_round rounds inverses d.stage) put
         ∙ ap (λ (o : Option ℕ). texts_to s d.said ++ cond (is_some o) (texts_for s (batch_of net d.first (asked_round rounds inverses d.stage))) []) put_asked
 
   -- ---- bytes from the switch
 
-  -- a failed session says nothing, and stays
-  record Dead (bytes : List ℕ) (d : DriverState) : Type 0 where
-    texts : texts_to s (state_after_bytes net rounds inverses s bytes d).said ≡ texts_to s d.said
-    failed : is_failed (channel_of (state_after_bytes net rounds inverses s bytes d)).session ≡ true
+  -- a switch that isn't dead, after bytes
+  abbrev heard_bytes : List ℕ → DriverState → DriverState
+  heard_bytes [] d = d
+  heard_bytes (b ∷ bytes) d = heard_bytes bytes (next b d)
 
-  fed_failed : (bytes : List ℕ) (d : DriverState) → s.0 < length d.peers → is_failed (channel_of d).session ≡ true → Dead bytes d
+  byte_alive : (b : ℕ) (d : DriverState) → (peer_at d s).is_dead ≡ false → fed_byte net rounds inverses s b d ≡ next b d
+  unfolding fed_byte
+  byte_alive b d alive = cond-false (peer_at d s).is_dead d (next b d) alive
+
+  byte_dead : (b : ℕ) (d : DriverState) → (peer_at d s).is_dead ≡ true → fed_byte net rounds inverses s b d ≡ d
+  unfolding fed_byte
+  byte_dead b d dead = cond-true (peer_at d s).is_dead d (next b d) dead
+
+  fed_alive : (bytes : List ℕ) (d : DriverState) → s.0 < length d.peers → ReadsAll (channel_of d) → (peer_at d s).is_dead ≡ false → state_after_bytes net rounds inverses s bytes d ≡ heard_bytes bytes d
+  fed_alive [] d less reads alive = refl
+  fed_alive (b ∷ bytes) d less reads alive =
+      let count = next_count b d less reads in
+      ap (state_after_bytes net rounds inverses s bytes) (byte_alive b d alive)
+      ∙ fed_alive bytes (next b d) (omega arith) (next_reading b d less reads) (next_dead b d less reads ∙ alive)
+
+  fed_dead : (bytes : List ℕ) (d : DriverState) → (peer_at d s).is_dead ≡ true → state_after_bytes net rounds inverses s bytes d ≡ d
+  fed_dead [] d dead = refl
+  fed_dead (b ∷ bytes) d dead = ap (state_after_bytes net rounds inverses s bytes) (byte_dead b d dead) ∙ fed_dead bytes d dead
+
+  -- a failed session says nothing, and stays
+  record IsStill (bytes : List ℕ) (d : DriverState) : Type 0 where
+    texts : texts_to s (heard_bytes bytes d).said ≡ texts_to s d.said
+    failed : is_failed (channel_of (heard_bytes bytes d)).session ≡ true
+
+  fed_failed : (bytes : List ℕ) (d : DriverState) → s.0 < length d.peers → is_failed (channel_of d).session ≡ true → IsStill bytes d
   fed_failed [] d less e = record { texts = refl; failed = e }
   fed_failed (b ∷ bytes) d less e =
       let reads : ReadsAll (channel_of d) = λ going. absurd (let f : true ≡ false = sym e ∙ going in cc) in
@@ -392,8 +326,8 @@ module _ (net : Network) (rounds inverses : List (List Change)) (s : SwitchId) w
   -- an open session is replied on
   record Served (came : List ℕ) (bytes : List ℕ) (d : DriverState) : Type 0 where
     more : List (List ℕ)
-    texts : texts_to s (state_after_bytes net rounds inverses s bytes d).said ≡ texts_to s d.said ++ map echo_reply more
-    are : AreRequests came (channel_of (state_after_bytes net rounds inverses s bytes d)) more
+    texts : texts_to s (heard_bytes bytes d).said ≡ texts_to s d.said ++ map echo_reply more
+    are : AreRequests came (channel_of (heard_bytes bytes d)) more
 
   fed_open : (bytes : List ℕ) (d : DriverState) → s.0 < length d.peers → (channel_of d).session ≡ Open → ReadsAll (channel_of d) → Served ((channel_of d).unread ++ bytes) bytes d
   fed_open [] d less is reads = record {
@@ -420,26 +354,26 @@ module _ (net : Network) (rounds inverses : List (List Change)) (s : SwitchId) w
               texts =
                   rest.texts ∙ ap (λ (l : List (List ℕ)). l ++ map echo_reply rest.more) texts ∙ append_assoc (texts_to s d.said) (map echo_reply first.requests) (map echo_reply rest.more)
                   ∙ ap (λ (l : List (List ℕ)). texts_to s d.said ++ l) (sym (map-append echo_reply first.requests rest.more));
-              are = subst (λ (l : List ℕ). AreRequests l (channel_of (state_after_bytes net rounds inverses s bytes e)) (first.requests ++ rest.more)) row
-                  (requests_both come bytes (channel_of e) (channel_of (state_after_bytes net rounds inverses s bytes e)) first.requests rest.more (ap is_failed at) are rest.are);
+              are = subst (λ (l : List ℕ). AreRequests l (channel_of (heard_bytes bytes e)) (first.requests ++ rest.more)) row
+                  (requests_both come bytes (channel_of e) (channel_of (heard_bytes bytes e)) first.requests rest.more (ap is_failed at) are rest.are);
             })
         | Failed c ↦ λ at past. (
             let rest = fed_failed bytes e (omega arith) (ap is_failed at) in
             record {
               more = first.requests;
               texts = rest.texts ∙ texts;
-              are = subst (λ (l : List ℕ). AreRequests l (channel_of (state_after_bytes net rounds inverses s bytes e)) first.requests) row
-                  (requests_failed come bytes (channel_of e) (channel_of (state_after_bytes net rounds inverses s bytes e)) first.requests rest.failed are);
+              are = subst (λ (l : List ℕ). AreRequests l (channel_of (heard_bytes bytes e)) first.requests) row
+                  (requests_failed come bytes (channel_of e) (channel_of (heard_bytes bytes e)) first.requests rest.failed are);
             })
       ] refl (subst IsPastHello (sym seen.session) first.session)
 
   -- a waiting session opens, or stays closed
   record Opens (came : List ℕ) (before : List (List ℕ)) (bytes : List ℕ) (d : DriverState) : Type 0 where
     more : List (List ℕ)
-    texts : texts_to s (state_after_bytes net rounds inverses s bytes d).said ≡ texts_to s d.said ++ more
-    answers : Answers Waiting before came (channel_of (state_after_bytes net rounds inverses s bytes d)) more
+    texts : texts_to s (heard_bytes bytes d).said ≡ texts_to s d.said ++ more
+    answers : Answers Waiting before came (channel_of (heard_bytes bytes d)) more
 
-  closed : (came : List ℕ) (before : List (List ℕ)) (bytes : List ℕ) (d : DriverState) → texts_to s (state_after_bytes net rounds inverses s bytes d).said ≡ texts_to s d.said → ((n : ℕ) → ¬ HasHello came n) → Opens came before bytes d
+  closed : (came : List ℕ) (before : List (List ℕ)) (bytes : List ℕ) (d : DriverState) → texts_to s (heard_bytes bytes d).said ≡ texts_to s d.said → ((n : ℕ) → ¬ HasHello came n) → Opens came before bytes d
   closed came before bytes d same none = record { more = []; texts = same ∙ sym (append-nil (texts_to s d.said)); answers = inl (record { none = none; texts_are = refl }) }
 
   fed_waiting : (bytes : List ℕ) (d : DriverState) → s.0 < length d.peers → (channel_of d).session ≡ Waiting → ReadsAll (channel_of d) → Opens ((channel_of d).unread ++ bytes) (again d) bytes d
@@ -470,8 +404,8 @@ module _ (net : Network) (rounds inverses : List (List Change)) (s : SwitchId) w
             record {
               more = rest.more;
               texts = rest.texts ∙ ap (λ (l : List (List ℕ)). l ++ rest.more) quiet_here;
-              answers = subst (λ (l : List ℕ). Answers Waiting (again d) l (channel_of (state_after_bytes net rounds inverses s bytes e)) rest.more) these
-                  (subst (λ (l : List (List ℕ)). Answers Waiting l ((channel_of e).unread ++ bytes) (channel_of (state_after_bytes net rounds inverses s bytes e)) rest.more) still rest.answers);
+              answers = subst (λ (l : List ℕ). Answers Waiting (again d) l (channel_of (heard_bytes bytes e)) rest.more) these
+                  (subst (λ (l : List (List ℕ)). Answers Waiting l ((channel_of e).unread ++ bytes) (channel_of (heard_bytes bytes e)) rest.more) still rest.answers);
             })
         | Fault c ↦ λ at. broken (breaks_at_fault b ch is short c at) (λ n has. let f : Fault c ≡ Message n = sym (fault_grows come bytes c at) ∙ has.front in absurd (cc))
         | Message n ↦ λ at. (
@@ -499,7 +433,7 @@ module _ (net : Network) (rounds inverses : List (List Change)) (s : SwitchId) w
                       replies = map echo_reply rest.more;
                       replied = record {
                         requests = rest.more;
-                        are = subst (λ (l : List ℕ). AreRequests l (channel_of (state_after_bytes net rounds inverses s bytes e)) rest.more) these rest.are;
+                        are = subst (λ (l : List ℕ). AreRequests l (channel_of (heard_bytes bytes e)) rest.more) these rest.are;
                         texts_are = refl;
                       };
                       texts_are = refl;
@@ -514,32 +448,50 @@ module _ (net : Network) (rounds inverses : List (List Change)) (s : SwitchId) w
             ])
       ] refl
 
--- ---- what every driver keeps: so many peers, on whose channels no whole message is unread
+-- ---- what every driver keeps: so many peers, on whose channels no whole message is unread; and the session of a dead one isn't open
+
+record PeerReads (p : PeerState) : Type 0 where
+  all : ReadsAll p.channel
+  shut : p.is_dead ≡ true → is_open p.channel.session ≡ false
 
 abbrev AllRead : List PeerState → Type 0
-AllRead peers = AllByRecursion (λ (p : PeerState). ReadsAll p.channel) peers
+AllRead peers = AllByRecursion PeerReads peers
 
-read_first : ReadsAll first_peer.channel
-read_first going = front_nil
+never_dead : {A : Type 0} → false ≡ true → A
+never_dead e = absurd (cc)
 
-read_at : (peers : List PeerState) (i : ℕ) → AllRead peers → ReadsAll (get_or peers i first_peer).channel
+read_first : PeerReads first_peer
+read_first = record { all = λ going. front_nil; shut = λ e. never_dead e }
+
+read_at : (peers : List PeerState) (i : ℕ) → AllRead peers → PeerReads (get_or peers i first_peer)
 read_at [] i h = read_first
 read_at (p ∷ peers) zero h = h.0
 read_at (p ∷ peers) (suc i) h = read_at peers i h.1
 
-read_set : (peers : List PeerState) (i : ℕ) (q : PeerState) → AllRead peers → ReadsAll q.channel → AllRead (set peers i q)
+read_set : (peers : List PeerState) (i : ℕ) (q : PeerState) → AllRead peers → PeerReads q → AllRead (set peers i q)
 read_set [] i q h r = tt
 read_set (p ∷ peers) zero q h r = (r, h.1)
 read_set (p ∷ peers) (suc i) q h r = (h.0, read_set peers i q h.1 r)
 
-read_alike : (p q : PeerState) → Alike p q → ReadsAll p.channel → ReadsAll q.channel
-read_alike p q alike h going = ap front_of alike.unread ∙ h (ap is_failed (sym alike.session) ∙ going)
+read_alike : (p q : PeerState) → Alike p q → PeerReads p → PeerReads q
+read_alike p q alike h =
+    let same = alike.reads in
+    record {
+      all = λ going. ap front_of same.unread ∙ h.all (ap is_failed (sym same.session) ∙ going);
+      shut = λ dead. ap is_open same.session ∙ h.shut (sym alike.dead ∙ dead);
+    }
+
+read_all_alike : (old new : List PeerState) → AllAlike old new → AllRead old → AllRead new
+read_all_alike old [] alike h = tt
+read_all_alike [] (q ∷ new) alike h = absurd (let count = alike.count in omega arith)
+read_all_alike (p ∷ old) (q ∷ new) alike h =
+    (read_alike p q (alike.each 0) h.0, read_all_alike old new (record { count = (let count = alike.count in omega arith); each = λ i. alike.each (suc i) }) h.1)
 
 read_asked : (x : ℕ) (round : List Change) (n : ℕ) (peers : List PeerState) → AllRead peers → AllRead (asked_from x round n peers)
 read_asked x round n [] h = tt
 read_asked x round n (p ∷ peers) h =
     let changed = is_changed round (switch_numbered n) in
-    (cond_both changed (asks x p) p (λ (q : PeerState). ReadsAll q.channel) (λ _. read_alike p (asks x p) (alike_asks x p) h.0) (λ _. h.0), read_asked (next_if changed x) round (suc n) peers h.1)
+    (cond_both changed (asks x p) p PeerReads (λ _. read_alike p (asks x p) (alike_asks x p) h.0) (λ _. h.0), read_asked (next_if changed x) round (suc n) peers h.1)
 
 record IsReading (count : ℕ) (d : DriverState) : Type 0 where
   peers : length d.peers ≡ count
@@ -549,76 +501,87 @@ module _ (net : Network) (rounds inverses : List (List Change)) (count : ℕ) wh
   reading_same : (d e : DriverState) → e.peers ≡ d.peers → IsReading count d → IsReading count e
   reading_same d e same h = record { peers = ap length same ∙ h.peers; read = subst AllRead (sym same) h.read }
 
-  reading_touched : (s : SwitchId) (e d : DriverState) → Touched s e d → IsReading count e → IsReading count d
-  reading_touched s e d (AsBefore same) h = reading_same e d same h
-  reading_touched s e d (PutBack q is alike) h = record {
-    peers = ap length is ∙ length-set e.peers s.0 q ∙ h.peers;
-    read = subst AllRead (sym is) (read_set e.peers s.0 q h.read (read_alike (peer_at e s) q alike (read_at e.peers s.0 h.read)));
-  }
+  reading_alike : (d e : DriverState) → AllAlike d.peers e.peers → IsReading count d → IsReading count e
+  reading_alike d e alike h = record { peers = alike.count ∙ h.peers; read = read_all_alike d.peers e.peers alike h.read }
 
-  reading_byte_fed : (s : SwitchId) (b : ℕ) (d : DriverState) → s.0 < count → IsReading count d → IsReading count (fed_byte net rounds inverses s b d)
-  reading_byte_fed s b d less h =
+  reading_heard : (s : SwitchId) (b : ℕ) (d : DriverState) → s.0 < count → (peer_at d s).is_dead ≡ false → IsReading count d → IsReading count (heard_byte net rounds inverses s b d)
+  unfolding peer_after
+  reading_heard s b d less alive h =
       let all = h.peers in
       let within : s.0 < length d.peers = omega arith in
-      let reads = read_at d.peers s.0 h.read in
+      let reads = (read_at d.peers s.0 h.read).all in
       let p = peer_after b (peer_at d s) in
-      let put_reading : ReadsAll p.channel =
+      let put_reading : PeerReads p =
       (let seen = put_reads net rounds inverses s b d within reads in let at = put_is net rounds inverses s b d within reads in
-      subst (λ (q : PeerState). ReadsAll q.channel) at
-      (λ going. ap front_of seen.unread ∙ reads_bytes (b ∷ []) (peer_at d s).channel reads (ap is_failed (sym seen.session) ∙ going))) in
-      reading_touched s (with_peer s p d) (fed_byte net rounds inverses s b d) (touches net rounds inverses s b d within reads)
+      record {
+        all = subst (λ (q : PeerState). ReadsAll q.channel) at (λ going. ap front_of seen.unread ∙ reads_bytes (b ∷ []) (peer_at d s).channel reads (ap is_failed (sym seen.session) ∙ going));
+        shut = λ dead. never_dead (sym alive ∙ dead);
+      }) in
+      reading_alike (with_peer s p d) (heard_byte net rounds inverses s b d) (touches net rounds inverses s b d within reads)
       (record { peers = length-set d.peers s.0 p ∙ h.peers; read = read_set d.peers s.0 p h.read put_reading })
+
+  reading_byte_fed : (s : SwitchId) (b : ℕ) (d : DriverState) → s.0 < count → IsReading count d → IsReading count (fed_byte net rounds inverses s b d)
+  unfolding fed_byte
+  reading_byte_fed s b d less h = cond_both (peer_at d s).is_dead d (heard_byte net rounds inverses s b d) (IsReading count) (λ _. h) (λ alive. reading_heard s b d less alive h)
 
   reading_fed : (s : SwitchId) (bytes : List ℕ) (d : DriverState) → s.0 < count → IsReading count d → IsReading count (state_after_bytes net rounds inverses s bytes d)
   reading_fed s [] d less h = h
   reading_fed s (b ∷ bytes) d less h = reading_fed s bytes (fed_byte net rounds inverses s b d) less (reading_byte_fed s b d less h)
 
-  reading_sent : (changes : List Change) (stage : Stage) (d : DriverState) → IsReading count d → IsReading count (settled_if_answered (sent_out net changes stage d))
+  reading_dead : (s : SwitchId) (d : DriverState) → IsReading count d → IsReading count (dead_driver rounds s d)
+  reading_dead s d h =
+      let p = dead_peer (peer_at d s) in
+      let e = with_peer s p d in
+      let round = running_round rounds d.stage in
+      let put : IsReading count e = record { peers = length-set d.peers s.0 p ∙ h.peers; read = read_set d.peers s.0 p h.read (record { all = λ going. front_nil; shut = λ _. refl }) } in
+      cond_both (peer_at d s).is_dead d (settled_if_answered round e) (IsReading count) (λ _. h) (λ _. reading_alike e (settled_if_answered round e) (if_answered_alike round e) put)
+
+  reading_sent : (round changes : List Change) (stage : Stage) (d : DriverState) → IsReading count d → IsReading count (settled_if_answered round (sent_out net changes stage d))
   unfolding sent_out
-  reading_sent changes stage d h =
+  reading_sent round changes stage d h =
       let e = sent_out net changes stage d in
       let x = xid_behind d.next (length changes) in
       let sent : IsReading count e = record { peers = length-asked x changes 0 d.peers ∙ h.peers; read = read_asked x changes 0 d.peers h.read } in
-      reading_same e (settled_if_answered e) (if_answered_peers e) sent
+      reading_alike e (settled_if_answered round e) (if_answered_alike round e) sent
 
   reading_start : (stage : Stage) (d : DriverState) → IsReading count d → IsReading count (started_in net rounds stage d)
   reading_start (Settled k) d h =
       let e = flagged_state false (with_said (Log logged.Start ∷ []) d) in
-      reading_sent (round_after k rounds) (Onward k) e (reading_same d e refl h)
+      reading_sent (round_after k rounds) (round_after k rounds) (Onward k) e (reading_same d e refl h)
   reading_start (Onward k) d h = h
   reading_start (Undone k) d h = h
 
-  reading_turn : (stage : Stage) (d : DriverState) → IsReading count d → IsReading count (turned_in net inverses stage d)
+  reading_turn : (stage : Stage) (d : DriverState) → IsReading count d → IsReading count (turned_in net rounds inverses stage d)
   reading_turn (Settled zero) d h = h
   reading_turn (Settled (suc k)) d h =
       let e = flagged_state true (with_said (Log logged.Back ∷ []) d) in
-      reading_sent (round_after k inverses) (Undone k) e (reading_same d e refl h)
-  reading_turn (Onward k) d h = reading_sent (round_after k inverses) (Undone k) d h
+      reading_sent (round_after k rounds) (round_after k inverses) (Undone k) e (reading_same d e refl h)
+  reading_turn (Onward k) d h = reading_sent (round_after k rounds) (round_after k inverses) (Undone k) d h
   reading_turn (Undone k) d h = h
 
 -- ---- what each call sends
 
 module _ (net : Network) (s : SwitchId) where
-  sent_texts : (changes : List Change) (stage : Stage) (d : DriverState)
-      → texts_to s (settled_if_answered (sent_out net changes stage d)).said ≡ texts_to s d.said ++ cond (is_open (get_or d.peers s.0 first_peer).channel.session) (texts_for s (batch_of net d.next changes)) []
+  sent_texts : (round changes : List Change) (stage : Stage) (d : DriverState)
+      → texts_to s (settled_if_answered round (sent_out net changes stage d)).said ≡ texts_to s d.said ++ cond (is_open (get_or d.peers s.0 first_peer).channel.session) (texts_for s (batch_of net d.next changes)) []
   unfolding sent_out
-  sent_texts changes stage d =
+  sent_texts round changes stage d =
       let ms = batch_of net d.next changes in
-      if_answered_quiet s (sent_out net changes stage d) ∙ texts-append s d.said (sends (is_to_open d.peers) ms) ∙ ap (λ (l : List (List ℕ)). texts_to s d.said ++ l) (texts_open s d.peers ms)
+      if_answered_quiet s round (sent_out net changes stage d) ∙ texts-append s d.said (sends (is_to_open d.peers) ms) ∙ ap (λ (l : List (List ℕ)). texts_to s d.said ++ l) (texts_open s d.peers ms)
 
 module _ (v : DriverView) (s : SwitchId) where
   abbrev quiet_state : DriverState
   quiet_state = record v.state { said = [] }
 
   start_sends : (stage : Stage) → texts_to s (started_in v.net v.rounds stage quiet_state).said ≡ option_map_or (asking_messages v s) (start_asks v stage) []
-  start_sends (Settled k) = sent_texts v.net s (round_after k v.rounds) (Onward k) (flagged_state false (with_said (Log logged.Start ∷ []) quiet_state))
+  start_sends (Settled k) = sent_texts v.net s (round_after k v.rounds) (round_after k v.rounds) (Onward k) (flagged_state false (with_said (Log logged.Start ∷ []) quiet_state))
   start_sends (Onward k) = refl
   start_sends (Undone k) = refl
 
-  back_sends : (stage : Stage) → texts_to s (turned_in v.net v.inverses stage quiet_state).said ≡ option_map_or (asking_messages v s) (back_asks v stage) []
+  back_sends : (stage : Stage) → texts_to s (turned_in v.net v.rounds v.inverses stage quiet_state).said ≡ option_map_or (asking_messages v s) (back_asks v stage) []
   back_sends (Settled zero) = refl
-  back_sends (Settled (suc k)) = sent_texts v.net s (round_after k v.inverses) (Undone k) (flagged_state true (with_said (Log logged.Back ∷ []) quiet_state))
-  back_sends (Onward k) = sent_texts v.net s (round_after k v.inverses) (Undone k) quiet_state
+  back_sends (Settled (suc k)) = sent_texts v.net s (round_after k v.rounds) (round_after k v.inverses) (Undone k) (flagged_state true (with_said (Log logged.Back ∷ []) quiet_state))
+  back_sends (Onward k) = sent_texts v.net s (round_after k v.rounds) (round_after k v.inverses) (Undone k) quiet_state
   back_sends (Undone k) = refl
 
   abbrev SendsSo : Call → Type 0
@@ -645,19 +608,25 @@ module _ (v : DriverView) (s : SwitchId) where
       chosen true = refl
       chosen false = refl
 
+  sends_dead : (t : SwitchId) → SendsSo (Dead t)
+  sends_dead t =
+      let e = with_peer t (dead_peer (peer_at v.state t)) quiet_state in
+      let round = running_round v.rounds v.state.stage in
+      cond_both (peer_at v.state t).is_dead quiet_state (settled_if_answered round e) (λ (x : DriverState). texts_to s x.said ≡ []) (λ _. refl) (λ _. if_answered_quiet s round e)
+
   module _ (within : s.0 < length v.state.peers) (read : AllRead v.state.peers) (bytes : List ℕ) where
     abbrev fed_state : DriverState
-    fed_state = state_after_bytes v.net v.rounds v.inverses s bytes quiet_state
+    fed_state = heard_bytes v.net v.rounds v.inverses s bytes quiet_state
 
     abbrev AnswersSo : Session → Type 0
     AnswersSo x = Answers x (unanswered_messages v s) ((peer_at v.state s).channel.unread ++ bytes) (peer_at fed_state s).channel (texts_to s fed_state.said)
 
     answers_by : (x : Session) → session_at v s ≡ x → AnswersSo x
     answers_by Waiting is =
-        let h = fed_waiting v.net v.rounds v.inverses s bytes quiet_state within is (read_at v.state.peers s.0 read) in
+        let h = fed_waiting v.net v.rounds v.inverses s bytes quiet_state within is (read_at v.state.peers s.0 read).all in
         subst (Answers Waiting (unanswered_messages v s) ((peer_at v.state s).channel.unread ++ bytes) (peer_at fed_state s).channel) (sym h.texts) h.answers
     answers_by Open is =
-        let h = fed_open v.net v.rounds v.inverses s bytes quiet_state within is (read_at v.state.peers s.0 read) in
+        let h = fed_open v.net v.rounds v.inverses s bytes quiet_state within is (read_at v.state.peers s.0 read).all in
         record { requests = h.more; are = h.are; texts_are = h.texts }
     answers_by (Failed c) is = (fed_failed v.net v.rounds v.inverses s bytes quiet_state within (ap is_failed is)).texts
 
@@ -667,8 +636,16 @@ module _ (v : DriverView) (s : SwitchId) where
   sends_fed : (t : SwitchId) (bytes : List ℕ) → s.0 < length v.state.peers → AllRead v.state.peers → SendsSo (Feed t bytes)
   sends_fed t bytes within read =
       let Here : SwitchId → Type 0 = λ r. Answers (session_at v s) (unanswered_messages v s) ((peer_at v.state s).channel.unread ++ bytes) (peer_at (after_call_anew v (Feed r bytes)).state s).channel (texts_to s (after_call_anew v (Feed r bytes)).state.said) in
+      let here : (peer_at v.state s).is_dead ≡ false → Here s = λ alive. (
+      let same = fed_alive v.net v.rounds v.inverses s bytes quiet_state within (read_at v.state.peers s.0 read).all alive in
+      subst (λ (x : DriverState). Answers (session_at v s) (unanswered_messages v s) ((peer_at v.state s).channel.unread ++ bytes) (peer_at x s).channel (texts_to s x.said)) (sym same) (sends_here within read bytes)) in
       record {
-        here = λ e. (let same : t ≡ s = ap switch_numbered e in subst Here (sym same) (sends_here within read bytes));
+        here = λ e alive. (let same : t ≡ s = ap switch_numbered e in subst Here (sym same) (here alive));
+        dead = λ dead. elim (cases_eq t.0 s.0) [
+          | inl e ↦ (let same : s ≡ t = ap switch_numbered (sym e) in
+              ap (λ (x : DriverState). texts_to s x.said) (fed_dead v.net v.rounds v.inverses t bytes quiet_state (subst (λ (r : SwitchId). (peer_at v.state r).is_dead ≡ true) same dead)))
+          | inr ne ↦ fed_away v.net v.rounds v.inverses t s ne bytes quiet_state
+        ];
         others = λ ne. fed_away v.net v.rounds v.inverses t s ne bytes quiet_state;
       }
 
@@ -677,6 +654,23 @@ module _ (v : DriverView) (s : SwitchId) where
   sends_call Back within read = sends_back
   sends_call (Reopen t) within read = sends_reopen t
   sends_call (Feed t bytes) within read = sends_fed t bytes within read
+  sends_call (Dead t) within read = sends_dead t
+
+  -- a dead switch gets nothing, until its session is opened again
+  abbrev IsSilent : Call → Type 0
+  IsSilent c = texts_to s (after_call_anew v c).state.said ≡ []
+
+  no_messages : is_open (session_at v s) ≡ false → (o : Option (List Change)) → option_map_or (asking_messages v s) o [] ≡ []
+  no_messages shut None = refl
+  no_messages shut (Some changes) = cond-false (is_open (session_at v s)) (texts_for s (batch_of v.net v.state.next changes)) [] shut
+
+  silent_call : (c : Call) → s.0 < length v.state.peers → AllRead v.state.peers → (peer_at v.state s).is_dead ≡ true → c ≢ Reopen s → IsSilent c
+  silent_call Start within read dead other = sends_start ∙ no_messages ((read_at v.state.peers s.0 read).shut dead) (asked_by v Start)
+  silent_call Back within read dead other = sends_back ∙ no_messages ((read_at v.state.peers s.0 read).shut dead) (asked_by v Back)
+  silent_call (Reopen t) within read dead other =
+      sends_reopen t ∙ cond-false (eqb t.0 s.0) (hello ∷ []) [] (ne_eqb t.0 s.0 (λ e. let same : t ≡ s = ap switch_numbered e in other (ap Reopen same)))
+  silent_call (Feed t bytes) within read dead other = (sends_fed t bytes within read).dead dead
+  silent_call (Dead t) within read dead other = sends_dead t
 
 -- ---- all calls
 
@@ -696,11 +690,12 @@ module _ (net : Network) (rounds inverses : List (List Change)) where
       cond_both (is_none (start_fault (view d))) (with_state (started_in net rounds d.stage d) (view d)) (view d) OnReading
       (λ _. (started_in net rounds d.stage d, refl, reading_start net rounds inverses (switch_count net) d.stage d h)) (λ _. (d, refl, h))
   reading_call d Back ok h =
-      cond_both (is_none (back_fault (view d))) (with_state (turned_in net inverses d.stage d) (view d)) (view d) OnReading
-      (λ _. (turned_in net inverses d.stage d, refl, reading_turn net rounds inverses (switch_count net) d.stage d h)) (λ _. (d, refl, h))
+      cond_both (is_none (back_fault (view d))) (with_state (turned_in net rounds inverses d.stage d) (view d)) (view d) OnReading
+      (λ _. (turned_in net rounds inverses d.stage d, refl, reading_turn net rounds inverses (switch_count net) d.stage d h)) (λ _. (d, refl, h))
   reading_call d (Reopen t) ok h =
-      (reopened_driver t d, refl, record { peers = length-set d.peers t.0 (reopened_peer (peer_at d t)) ∙ h.peers; read = read_set d.peers t.0 (reopened_peer (peer_at d t)) h.read read_first })
+      (reopened_driver t d, refl, record { peers = length-set d.peers t.0 (reopened_peer (peer_at d t)) ∙ h.peers; read = read_set d.peers t.0 (reopened_peer (peer_at d t)) h.read (record { all = λ going. front_nil; shut = λ e. never_dead e }) })
   reading_call d (Feed t bytes) ok h = (state_after_bytes net rounds inverses t bytes d, refl, reading_fed net rounds inverses (switch_count net) t bytes d ok h)
+  reading_call d (Dead t) ok h = (dead_driver rounds t d, refl, reading_dead net rounds inverses (switch_count net) t d h)
 
   reading_calls : (w : DriverView) (calls : List Call) → AllByRecursion (IsCall net) calls → OnReading w → OnReading (after_calls w calls)
   reading_calls w [] ok on = on
@@ -717,6 +712,13 @@ module _ (net : Network) (rounds inverses : List (List Change)) where
       let (d, is, h) = all_reading calls ok in
       let all = h.peers in
       subst (λ (v : DriverView). Sends v (after_call_anew v c) s c (texts_to s (after_call_anew v c).state.said)) (sym is) (sends_call (view d) s c (omega arith) h.read)
+
+  pub none_to_dead : (calls : List Call) (c : Call) (s : SwitchId) → AllByRecursion (IsCall net) calls → s.0 < switch_count net
+      → (peer_at (driver_after net rounds inverses calls).state s).is_dead ≡ true → c ≢ Reopen s → texts_to s (after_call_anew (driver_after net rounds inverses calls) c).state.said ≡ []
+  none_to_dead calls c s ok less =
+      let (d, is, h) = all_reading calls ok in
+      let all = h.peers in
+      subst (λ (v : DriverView). (peer_at v.state s).is_dead ≡ true → c ≢ Reopen s → texts_to s (after_call_anew v c).state.said ≡ []) (sym is) (silent_call (view d) s c (omega arith) h.read)
 
 -- HELLO is the first that is sent to each switch
 module _ (s : SwitchId) where

@@ -3,7 +3,7 @@ use Rattle.std.proofs.Common.{◌≡◌, ℕ, zero, suc, ◌+◌, ◌<◌, ◌�
 use Rattle.std.specs.Prelude.{Option, Some, None, is_some, slice_index_or}
 use Rattle.std.specs.Option.{option_map_or}
 use Rattle.std.proofs.lemmas.Bool.{cond-true, cond_both, eq-eqb}
-use Rattle.std.proofs.lemmas.List.{length-replicate}
+use Rattle.std.proofs.lemmas.List.{length-replicate, length-map}
 use Rattle.net_base.specs.declared.ids.SwitchId.{SwitchId}
 use Rattle.topology.specs.Networks.{Network, switch_count}
 use Rattle.update_model.specs.Changes.{round_after}
@@ -12,9 +12,9 @@ use Rattle.round_messages.specs.Requests.{is_changed, switch_numbered}
 use Rattle.switch_session.specs.Channels.{after_byte}
 use Rattle.turned_rounds.specs.Batches.{next_if}
 use Rattle.two_way_driver.specs.PeerStates.{PeerState}
-use Rattle.two_way_driver.specs.Peers.{heard_by, peer_after, answers}
-use Rattle.two_way_driver.specs.Drivers.{DriverState, peer_at, with_peer, with_said, asked_from, sent_out, settled_in, all_answered, settled_if_answered, undo_notes, made_state, undone_state, carried_out, answered_state, sent_again, opened_state, running_round, asked_round, heard_state, fed_byte, state_after_bytes, flagged_state, started_with, undone_with, turned_with, start_fault_in, started_in, turned_in}
-use Rattle.two_way_driver.specs.Calls.{AreTurnable, DriverView, with_state, IsStageWithin, IsServing, start_fault, started_view, turned_view, fed_view}
+use Rattle.two_way_driver.specs.Peers.{heard_by, peer_after, answers, dead_peer, settled_peer}
+use Rattle.two_way_driver.specs.Drivers.{DriverState, peer_at, with_peer, with_said, asked_from, sent_out, settled_in, all_answered, settled_if_answered, undo_notes, is_change_at, made_state, undone_state, carried_out, answered_state, sent_again, opened_state, running_round, asked_round, heard_state, heard_byte, fed_byte, state_after_bytes, flagged_state, started_with, undone_with, turned_with, start_fault_in, started_in, turned_in, dead_driver}
+use Rattle.two_way_driver.specs.Calls.{AreTurnable, DriverView, with_state, IsStageWithin, IsServing, start_fault, started_view, turned_view, fed_view, dead_view}
 use Rattle.two_way_driver.specs.Inside.{heard_on, fed_on}
 use Rattle.two_way_driver.specs.declared.legs.Leg.{Leg}
 use Rattle.two_way_driver.specs.declared.Stage.{Stage}
@@ -33,15 +33,15 @@ module _ (net : Network) (rounds inverses : List (List Change)) (count : ℕ) wh
     pub flags : length d.in_force ≡ count
     pub stage : IsStageWithin rounds d.stage
 
-  kept_settled : (stage : Stage) (d : DriverState) → IsStageWithin rounds stage → IsKept d → IsKept (settled_in stage d)
+  kept_settled : (round : List Change) (stage : Stage) (d : DriverState) → IsStageWithin rounds stage → IsKept d → IsKept (settled_in round stage d)
   unfolding settled_in
-  kept_settled (Settled k) d within h = h
-  kept_settled (Onward k) d within h = record { peers = h.peers; flags = h.flags; stage = (let w : k < length rounds = within in omega arith) }
-  kept_settled (Undone k) d within h = record { peers = h.peers; flags = h.flags; stage = (let w : k < length rounds = within in omega arith) }
+  kept_settled round (Settled k) d within h = h
+  kept_settled round (Onward k) d within h = record { peers = length-map d.peers settled_peer ∙ h.peers; flags = h.flags; stage = (let w : k < length rounds = within in omega arith) }
+  kept_settled round (Undone k) d within h = record { peers = length-map d.peers settled_peer ∙ h.peers; flags = h.flags; stage = (let w : k < length rounds = within in omega arith) }
 
-  pub kept_if_answered : (d : DriverState) → IsKept d → IsKept (settled_if_answered d)
+  pub kept_if_answered : (round : List Change) (d : DriverState) → IsKept d → IsKept (settled_if_answered round d)
   unfolding settled_if_answered
-  kept_if_answered d h = cond_both (all_answered d.peers) (settled_in d.stage d) d IsKept (λ e. kept_settled d.stage d h.stage h) (λ e. h)
+  kept_if_answered round d h = cond_both (all_answered d.peers) (settled_in round d.stage d) d IsKept (λ e. kept_settled round d.stage d h.stage h) (λ e. h)
 
   kept_made : (round : List Change) (s : SwitchId) (d : DriverState) → IsKept d → IsKept (made_state round s d)
   unfolding made_state
@@ -50,7 +50,7 @@ module _ (net : Network) (rounds inverses : List (List Change)) (count : ℕ) wh
   kept_undone : (round : List Change) (s : SwitchId) (d : DriverState) → IsKept d → IsKept (undone_state round s d)
   unfolding undone_state
   kept_undone round s d h =
-      elim (slice_index_or d.in_force s.0 false) as (λ b. IsKept (cond b (record d { in_force = set d.in_force s.0 false; said = d.said ++ undo_notes s 0 round }) d)) [
+      elim (slice_index_or d.in_force s.0 false) as (λ b. IsKept (cond b (record d { in_force = set d.in_force s.0 false; said = d.said ++ undo_notes (is_change_at s) 0 round }) d)) [
         | true ↦ record { peers = h.peers; flags = length-set d.in_force s.0 false ∙ h.flags; stage = h.stage }
         | false ↦ h
       ]
@@ -68,8 +68,8 @@ module _ (net : Network) (rounds inverses : List (List Change)) (count : ℕ) wh
   kept_answered round s d h =
       let e = with_peer s (answers (peer_at d s)) d in
       let k = kept_peer s (answers (peer_at d s)) d h in
-      cond_both (is_some (peer_at d s).behind) (made_state round s e) (settled_if_answered (carried_out round s e.stage e)) IsKept
-      (λ t. kept_made round s e k) (λ f. kept_if_answered (carried_out round s e.stage e) (kept_carried round s e.stage e k))
+      cond_both (is_some (peer_at d s).behind) (made_state round s e) (settled_if_answered round (carried_out round s e.stage e)) IsKept
+      (λ t. kept_made round s e k) (λ f. kept_if_answered round (carried_out round s e.stage e) (kept_carried round s e.stage e k))
 
   kept_opened : (changes : List Change) (s : SwitchId) (d : DriverState) → IsKept d → IsKept (opened_state net changes s d)
   unfolding opened_state
@@ -90,7 +90,14 @@ module _ (net : Network) (rounds inverses : List (List Change)) (count : ℕ) wh
   unfolding fed_byte
   kept_byte s b d h =
       let before = peer_at d s in
-      kept_heard s (heard_by before.channel (after_byte b before.channel)) (with_peer s (peer_after b before) d) (kept_peer s (peer_after b before) d h)
+      cond_both before.is_dead d (heard_byte net rounds inverses s b d) IsKept (λ _. h)
+      (λ _. kept_heard s (heard_by before.channel (after_byte b before.channel)) (with_peer s (peer_after b before) d) (kept_peer s (peer_after b before) d h))
+
+  pub kept_dead : (s : SwitchId) (d : DriverState) → IsKept d → IsKept (dead_driver rounds s d)
+  kept_dead s d h =
+      let e = with_peer s (dead_peer (peer_at d s)) d in
+      let round = running_round rounds d.stage in
+      cond_both (peer_at d s).is_dead d (settled_if_answered round e) IsKept (λ _. h) (λ _. kept_if_answered round e (kept_peer s (dead_peer (peer_at d s)) d h))
 
   pub kept_fed : (s : SwitchId) (bytes : List ℕ) (d : DriverState) → IsKept d → IsKept (state_after_bytes net rounds inverses s bytes d)
   kept_fed s [] d h = h
@@ -103,15 +110,15 @@ module _ (net : Network) (rounds inverses : List (List Change)) (count : ℕ) wh
   pub kept_started : (changes : List Change) (k : ℕ) (d : DriverState) → k < length rounds → length d.peers ≡ count → IsKept (started_with net changes k d)
   kept_started changes k d less peers =
       let e = flagged_state false (with_said _ d) in
-      kept_if_answered (sent_out net changes (Onward k) e) (kept_sent changes (Onward k) e less peers (length-replicate (length d.peers) false ∙ peers))
+      kept_if_answered changes (sent_out net changes (Onward k) e) (kept_sent changes (Onward k) e less peers (length-replicate (length d.peers) false ∙ peers))
 
-  pub kept_turned : (changes : List Change) (k : ℕ) (d : DriverState) → k < length rounds → length d.peers ≡ count → length d.in_force ≡ count → IsKept (turned_with net changes k d)
-  kept_turned changes k d less peers flags = kept_if_answered (sent_out net changes (Undone k) d) (kept_sent changes (Undone k) d less peers flags)
+  pub kept_turned : (round changes : List Change) (k : ℕ) (d : DriverState) → k < length rounds → length d.peers ≡ count → length d.in_force ≡ count → IsKept (turned_with net round changes k d)
+  kept_turned round changes k d less peers flags = kept_if_answered round (sent_out net changes (Undone k) d) (kept_sent changes (Undone k) d less peers flags)
 
-  pub kept_undone_with : (changes : List Change) (k : ℕ) (d : DriverState) → k < length rounds → length d.peers ≡ count → IsKept (undone_with net changes k d)
-  kept_undone_with changes k d less peers =
+  pub kept_undone_with : (round changes : List Change) (k : ℕ) (d : DriverState) → k < length rounds → length d.peers ≡ count → IsKept (undone_with net round changes k d)
+  kept_undone_with round changes k d less peers =
       let e = flagged_state true (with_said _ d) in
-      kept_if_answered (sent_out net changes (Undone k) e) (kept_sent changes (Undone k) e less peers (length-replicate (length d.peers) true ∙ peers))
+      kept_if_answered round (sent_out net changes (Undone k) e) (kept_sent changes (Undone k) e less peers (length-replicate (length d.peers) true ∙ peers))
 
   started_kept : (stage : Stage) (d : DriverState) → IsStageWithin rounds stage → start_fault_in net rounds d.peers stage ≡ None → IsKept d → IsKept (started_in net rounds stage d)
   started_kept (Settled k) d within none h =
@@ -121,10 +128,10 @@ module _ (net : Network) (rounds inverses : List (List Change)) (count : ℕ) wh
   started_kept (Onward k) d within none h = h
   started_kept (Undone k) d within none h = h
 
-  turned_kept : (stage : Stage) (d : DriverState) → IsStageWithin rounds stage → IsKept d → IsKept (turned_in net inverses stage d)
+  turned_kept : (stage : Stage) (d : DriverState) → IsStageWithin rounds stage → IsKept d → IsKept (turned_in net rounds inverses stage d)
   turned_kept (Settled zero) d within h = h
-  turned_kept (Settled (suc k)) d within h = kept_undone_with (round_after k inverses) k d (let le : suc k ≤ length rounds = within in omega arith) h.peers
-  turned_kept (Onward k) d within h = kept_turned (round_after k inverses) k d within h.peers h.flags
+  turned_kept (Settled (suc k)) d within h = kept_undone_with (round_after k rounds) (round_after k inverses) k d (let le : suc k ≤ length rounds = within in omega arith) h.peers
+  turned_kept (Onward k) d within h = kept_turned (round_after k rounds) (round_after k inverses) k d within h.peers h.flags
   turned_kept (Undone k) d within h = h
 
 -- ---- of what contracts see
@@ -139,10 +146,13 @@ pub serving_started : (v : DriverView) → IsServing v → start_fault v ≡ Non
 serving_started v h none = serving_of v (started_in v.net v.rounds v.state.stage v.state) h.turnable (started_kept v.net v.rounds v.inverses (switch_count v.net) v.state.stage v.state h.stage none (kept_of v h))
 
 pub serving_turned : (v : DriverView) → IsServing v → IsServing (turned_view v)
-serving_turned v h = serving_of v (turned_in v.net v.inverses v.state.stage v.state) h.turnable (turned_kept v.net v.rounds v.inverses (switch_count v.net) v.state.stage v.state h.stage (kept_of v h))
+serving_turned v h = serving_of v (turned_in v.net v.rounds v.inverses v.state.stage v.state) h.turnable (turned_kept v.net v.rounds v.inverses (switch_count v.net) v.state.stage v.state h.stage (kept_of v h))
 
 pub serving_fed : (s : SwitchId) (bytes : List ℕ) (v : DriverView) → IsServing v → IsServing (fed_view s bytes v)
 serving_fed s bytes v h = serving_of v (state_after_bytes v.net v.rounds v.inverses s bytes v.state) h.turnable (kept_fed v.net v.rounds v.inverses (switch_count v.net) s bytes v.state (kept_of v h))
+
+pub serving_dead : (s : SwitchId) (v : DriverView) → IsServing v → IsServing (dead_view s v)
+serving_dead s v h = serving_of v (dead_driver v.rounds s v.state) h.turnable (kept_dead v.net v.rounds v.inverses (switch_count v.net) s v.state (kept_of v h))
 
 pub serving_byte : (s : SwitchId) (b : ℕ) (v : DriverView) → IsServing v → IsServing (fed_view s (b ∷ []) v)
 serving_byte s b v h = serving_fed s (b ∷ []) v h
@@ -163,7 +173,7 @@ module _ (leg : Leg) (net : Network) (rounds inverses : List (List Change)) (s :
   unfolding fed_byte
   fed_on_is b d same round asked =
       let before = peer_at d s in
-      heard_on_is (heard_by before.channel (after_byte b before.channel)) (with_peer s (peer_after b before) d) same round asked
+      ap (λ e. cond before.is_dead d e) (heard_on_is (heard_by before.channel (after_byte b before.channel)) (with_peer s (peer_after b before) d) same round asked)
 
 pub fed_step : (s : SwitchId) (bytes : List ℕ) (n : ℕ) (now next whole : DriverView) → n < length bytes
     → next ≡ with_state (fed_byte now.net now.rounds now.inverses s (get_or bytes n 0) now.state) now → fed_view s (drop n bytes) now ≡ whole → fed_view s (drop (n + 1) bytes) next ≡ whole

@@ -7,7 +7,7 @@ use Rattle.update_model.specs.Changes.{round_after}
 use Rattle.update_model.specs.Ranges.{IsPlanChange}
 use Rattle.update_model.specs.declared.Change.{Change}
 use Rattle.round_messages.specs.Requests.{is_changed}
-use Rattle.two_way_driver.specs.Drivers.{DriverState, state_after_bytes, start_fault_in, back_fault_in, started_in, turned_in, reopened_driver}
+use Rattle.two_way_driver.specs.Drivers.{DriverState, state_after_bytes, start_fault_in, back_fault_in, started_in, turned_in, reopened_driver, dead_driver}
 use Rattle.two_way_driver.specs.declared.Stage.{Stage}
 use Rattle.two_way_driver.specs.declared.Stage.TheVariants.{Settled, Onward, Undone}
 use Rattle.two_way_driver.specs.declared.faults.CallFault.{CallFault}
@@ -57,7 +57,7 @@ started_view v = with_state (started_in v.net v.rounds v.state.stage v.state) v
 
 -- a driver after it turns back
 abbrev pub turned_view : DriverView → DriverView
-turned_view v = with_state (turned_in v.net v.inverses v.state.stage v.state) v
+turned_view v = with_state (turned_in v.net v.rounds v.inverses v.state.stage v.state) v
 
 -- a driver after bytes from a switch
 abbrev pub fed_view : SwitchId → List ℕ → DriverView → DriverView
@@ -66,6 +66,10 @@ fed_view s bytes v = with_state (state_after_bytes v.net v.rounds v.inverses s b
 -- a driver after the session with a switch is opened again
 abbrev pub reopened_view : SwitchId → DriverView → DriverView
 reopened_view s v = with_state (reopened_driver s v.state) v
+
+-- a driver after a switch died
+abbrev pub dead_view : SwitchId → DriverView → DriverView
+dead_view s v = with_state (dead_driver v.rounds s v.state) v
 
 -- a driver that forgot what was said
 abbrev pub silent_view : DriverView → DriverView

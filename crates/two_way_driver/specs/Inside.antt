@@ -1,9 +1,10 @@
 -- What a driver keeps, as contracts see it.
-use Rattle.std.specs.Prelude.{ℕ, ◌+◌, ◌<◌, ◌^◌, [], ◌∷◌}
+use Rattle.std.specs.Prelude.{ℕ, ◌+◌, ◌<◌, ◌^◌, if◌then◌else◌, List, [], ◌∷◌}
 use Rattle.net_base.specs.declared.ids.SwitchId.{SwitchId}
+use Rattle.update_model.specs.declared.Change.{Change}
 use Rattle.switch_session.specs.Channels.{after_byte}
-use Rattle.two_way_driver.specs.Peers.{heard_by, peer_after}
-use Rattle.two_way_driver.specs.Drivers.{DriverState, peer_at, with_peer, with_said, opened_state, answered_state}
+use Rattle.two_way_driver.specs.Peers.{heard_by, peer_after, dead_peer}
+use Rattle.two_way_driver.specs.Drivers.{DriverState, peer_at, with_peer, with_said, settled_if_answered, opened_state, answered_state, undone_with, turned_with}
 use Rattle.two_way_driver.specs.Calls.{DriverView}
 use Rattle.two_way_driver.specs.declared.DriverOutput.TheVariants.{Send, Failed}
 use Rattle.two_way_driver.specs.declared.legs.Leg.{Leg}
@@ -36,8 +37,20 @@ heard_on leg s Answered d = answered_state leg.round.now s d
 heard_on leg s (Replied text) d = with_said (Send s text ∷ []) d
 heard_on leg s (Broke cause) d = with_said (Failed s cause ∷ []) d
 
--- a driver after a byte from a switch, where the running round is this one
+-- a driver after a byte from a switch, where the running round is this one; what comes from a dead one does nothing
 abbrev pub fed_on : Leg → SwitchId → ℕ → DriverState → DriverState
 fed_on leg s b d =
     let before = peer_at d s in
-    heard_on leg s (heard_by before.channel (after_byte b before.channel)) (with_peer s (peer_after b before) d)
+    if before.is_dead then d else heard_on leg s (heard_by before.channel (after_byte b before.channel)) (with_peer s (peer_after b before) d)
+
+-- a driver after a switch died, where the running round is this one
+abbrev pub dead_on : List Change → SwitchId → DriverState → DriverState
+dead_on round s d =
+    if (peer_at d s).is_dead then d else settled_if_answered round (with_peer s (dead_peer (peer_at d s)) d)
+
+-- a driver after the round of a leg begins to be taken back, and after it is turned back
+abbrev pub undone_on : Leg → ℕ → DriverState → DriverState
+undone_on leg k d = undone_with leg.net.now leg.round.now leg.asked.now k d
+
+abbrev pub turned_on : Leg → ℕ → DriverState → DriverState
+turned_on leg k d = turned_with leg.net.now leg.round.now leg.asked.now k d

@@ -17,7 +17,7 @@ use Rattle.switch_session.specs.Channels.{ChannelState, is_failed}
 use Rattle.switch_session.specs.declared.fronts.Front.TheVariants.{Short}
 use Rattle.two_way_driver.specs.PeerStates.{PeerState}
 use Rattle.two_way_driver.specs.Drivers.{DriverState, peer_at, first_driver}
-use Rattle.two_way_driver.specs.Calls.{DriverView, start_fault, back_fault, started_view, turned_view, reopened_view, fed_view}
+use Rattle.two_way_driver.specs.Calls.{DriverView, start_fault, back_fault, started_view, turned_view, reopened_view, fed_view, dead_view}
 use Rattle.two_way_driver.specs.declared.Stage.{Stage}
 use Rattle.two_way_driver.specs.declared.Stage.TheVariants.{Settled, Onward, Undone}
 use Rattle.two_way_driver.specs.declared.DriverEvent.{DriverEvent}
@@ -25,12 +25,13 @@ use Rattle.two_way_driver.specs.declared.DriverEvent.TheVariants as logged
 use Rattle.two_way_driver.specs.declared.DriverOutput.{DriverOutput}
 use Rattle.two_way_driver.specs.declared.DriverOutput.TheVariants.{Send, Failed, Log}
 
--- a call: the next round is to start, the update is to turn back, a session is opened again, or bytes come from a switch
+-- a call: the next round is to start, the update is to turn back, a session is opened again, bytes come from a switch, or a switch died
 pub data Call : Type 0 where
   Start : Call
   Back : Call
   Reopen : SwitchId → Call
   Feed : SwitchId → List ℕ → Call
+  Dead : SwitchId → Call
 
 -- a switch of a call is one of the network
 abbrev pub IsCall : Network → Call → Type 0
@@ -38,6 +39,7 @@ IsCall net Start = Unit {0}
 IsCall net Back = Unit {0}
 IsCall net (Reopen s) = s.0 < switch_count net
 IsCall net (Feed s bytes) = s.0 < switch_count net
+IsCall net (Dead s) = s.0 < switch_count net
 
 -- a driver after a call; one that is refused leaves it as it was
 abbrev pub after_call : DriverView → Call → DriverView
@@ -45,6 +47,7 @@ after_call v Start = if is_none (start_fault v) then started_view v else v
 after_call v Back = if is_none (back_fault v) then turned_view v else v
 after_call v (Reopen s) = reopened_view s v
 after_call v (Feed s bytes) = fed_view s bytes v
+after_call v (Dead s) = dead_view s v
 
 -- a driver after calls
 abbrev pub after_calls : DriverView → List Call → DriverView

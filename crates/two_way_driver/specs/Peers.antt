@@ -1,5 +1,5 @@
 -- One switch: what comes of a byte from it, and its barrier requests, which it answers in the order in which they were sent.
-use Rattle.std.specs.Prelude.{ℕ, ◌&&◌, not, nat_lt, if◌then◌else◌, [], length, drop, Option, Some, None, is_some, is_none}
+use Rattle.std.specs.Prelude.{ℕ, true, false, ◌&&◌, not, nat_lt, if◌then◌else◌, [], length, drop, Option, Some, None, is_some, is_none}
 use Rattle.std.specs.Option.{option_map_or}
 use Rattle.switch_session.specs.Channels.{ChannelState, first_channel, hello, is_failed, is_open, after_byte, after_request}
 use Rattle.switch_session.specs.declared.Session.{Session}
@@ -10,7 +10,7 @@ use Rattle.two_way_driver.specs.declared.peers.ByteOutcome.TheVariants.{Nothing,
 
 -- a switch at the beginning
 abbrev pub first_peer : PeerState
-first_peer = record { channel = first_channel; behind = None; asked = None }
+first_peer = record { channel = first_channel; behind = None; asked = None; is_dead = false }
 
 -- a channel that is open, with nothing unread, of which nothing that was sent is kept but HELLO
 abbrev pub opened_anew : Option ℕ → ChannelState
@@ -60,4 +60,12 @@ answers p = option_map_or (λ x. record p { channel = after_request [] x p.chann
 
 -- the session waits for HELLO again
 abbrev pub reopened_peer : PeerState → PeerState
-reopened_peer p = record p { channel = first_channel; behind = None }
+reopened_peer p = record p { channel = first_channel; behind = None; is_dead = false }
+
+-- the switch is dead: nothing was sent to it that counts, and nothing comes from it
+abbrev pub dead_peer : PeerState → PeerState
+dead_peer p = record p { channel = first_channel; behind = None; is_dead = true }
+
+-- of a round that is settled nothing is asked of a dead switch any more
+abbrev pub settled_peer : PeerState → PeerState
+settled_peer p = if p.is_dead then record p { asked = None } else p

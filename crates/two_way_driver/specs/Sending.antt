@@ -1,5 +1,5 @@
 -- What a call sends to a switch.
-use Rattle.std.specs.Prelude.{◌≡◌, ◌≢◌, ◌⊎◌, ℕ, zero, suc, ◌==◌, if◌then◌else◌, List, [], ◌∷◌, ◌++◌, length, map, take, drop, filter, filter_map, Option, Some, None, is_some, is_none}
+use Rattle.std.specs.Prelude.{◌≡◌, ◌≢◌, ◌⊎◌, ℕ, zero, suc, true, false, ◌==◌, if◌then◌else◌, List, [], ◌∷◌, ◌++◌, length, map, take, drop, filter, filter_map, Option, Some, None, is_some, is_none}
 use Rattle.std.specs.Option.{option_map_or}
 use Rattle.net_base.specs.declared.ids.SwitchId.{SwitchId}
 use Rattle.update_model.specs.Changes.{round_after}
@@ -14,7 +14,7 @@ use Rattle.turned_rounds.specs.Batches.{xid_behind, batch_of}
 use Rattle.turned_rounds.specs.declared.outgoing.Outgoing.{Outgoing}
 use Rattle.two_way_driver.specs.Drivers.{peer_at, is_to, asked_round}
 use Rattle.two_way_driver.specs.Calls.{DriverView, start_fault, back_fault}
-use Rattle.two_way_driver.specs.Laws.{Call, Start, Back, Reopen, Feed}
+use Rattle.two_way_driver.specs.Laws.{Call, Start, Back, Reopen, Feed, Dead}
 use Rattle.two_way_driver.specs.declared.Stage.{Stage}
 use Rattle.two_way_driver.specs.declared.Stage.TheVariants.{Settled, Onward, Undone}
 use Rattle.two_way_driver.specs.declared.DriverOutput.{DriverOutput}
@@ -55,6 +55,7 @@ asked_by v Start = if is_none (start_fault v) then start_asks v v.state.stage el
 asked_by v Back = if is_none (back_fault v) then back_asks v v.state.stage else None
 asked_by v (Reopen s) = None
 asked_by v (Feed s bytes) = None
+asked_by v (Dead s) = None
 
 -- the messages that ask a switch for these changes, if its session is open; the first message to all switches has the next xid
 abbrev pub asking_messages : DriverView → SwitchId → List Change → List (List ℕ)
@@ -96,9 +97,10 @@ Answers Waiting again came after texts = StaysClosed came texts ⊎ Greets again
 Answers Open again came after texts = Replies came after texts
 Answers (Failed c) again came after texts = texts ≡ []
 
--- what bytes that come from a switch make a driver send to a switch: nothing, if it is another one
+-- what bytes that come from a switch make a driver send to a switch: nothing, if it is another one or dead
 pub record SendsFed (before after : DriverView) (from : SwitchId) (bytes : List ℕ) (s : SwitchId) (texts : List (List ℕ)) : Type 0 where
-  pub here : from.0 ≡ s.0 → Answers (session_at before s) (unanswered_messages before s) ((peer_at before.state s).channel.unread ++ bytes) (peer_at after.state s).channel texts
+  pub here : from.0 ≡ s.0 → (peer_at before.state s).is_dead ≡ false → Answers (session_at before s) (unanswered_messages before s) ((peer_at before.state s).channel.unread ++ bytes) (peer_at after.state s).channel texts
+  pub dead : (peer_at before.state s).is_dead ≡ true → texts ≡ []
   pub others : from.0 ≢ s.0 → texts ≡ []
 
 -- what a call sends to a switch, in order
@@ -107,6 +109,7 @@ Sends before after s Start texts = texts ≡ option_map_or (asking_messages befo
 Sends before after s Back texts = texts ≡ option_map_or (asking_messages before s) (asked_by before Back) []
 Sends before after s (Reopen t) texts = texts ≡ (if t.0 == s.0 then hello ∷ [] else [])
 Sends before after s (Feed t bytes) texts = SendsFed before after t bytes s texts
+Sends before after s (Dead t) texts = texts ≡ []
 
 -- how the xids go on behind a call: the messages for which it asks have the next ones, one after the other, and keep them; all else takes none
 pub record GoesOn (before after : DriverView) (c : Call) : Type 0 where

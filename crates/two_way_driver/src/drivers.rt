@@ -1,8 +1,8 @@
 //! The driver.
 ghost use Rattle.std.specs.Prelude.{◌≡◌, ◌<◌, ◌+◌, length, IfOk, IfErr, OnOk, None};
 ghost use Rattle.topology.specs.Networks.{switch_count};
-ghost use Rattle.two_way_driver.specs.Drivers.{peer_at, state_after_bytes, reopened_driver, first_driver};
-ghost use Rattle.two_way_driver.specs.Calls.{AreTurnable, IsServing, IsCallRefusal, KeepsUnlessMemory, start_fault, back_fault, started_view, turned_view, with_state, fed_view, reopened_view, silent_view};
+ghost use Rattle.two_way_driver.specs.Drivers.{peer_at, state_after_bytes, reopened_driver, dead_driver, first_driver};
+ghost use Rattle.two_way_driver.specs.Calls.{AreTurnable, IsServing, IsCallRefusal, KeepsUnlessMemory, start_fault, back_fault, started_view, turned_view, with_state, fed_view, reopened_view, dead_view, silent_view};
 ghost use Rattle.two_way_driver.specs.Inside.{view_of};
 
 use crate::faults::CallFault;
@@ -64,7 +64,8 @@ fn undo_on(plan: &TurnablePlan, talks: &mut Talks, k: u32) -> Result<(), CallFau
     if let Some(switch) = missing {
         return Err(CallFault::NotOpen(switch));
     }
-    talks.undo(plan.net, plan.inverses.round(k as usize), k)?;
+    let leg = plan.leg(Stage::Undone(k));
+    talks.undo(&leg, k)?;
     Ok(())
 }
 
@@ -82,7 +83,8 @@ fn back_on(plan: &TurnablePlan, talks: &mut Talks) -> Result<(), CallFault>
         Stage::Settled(0) => Err(CallFault::NotBegun),
         Stage::Settled(settled) => undo_on(plan, talks, settled - 1),
         Stage::Onward(k) => {
-            talks.turn(plan.net, plan.inverses.round(k as usize), k)?;
+            let leg = plan.leg(Stage::Undone(k));
+            talks.turn(&leg, k)?;
             Ok(())
         }
         Stage::Undone(_) => Err(CallFault::Running),
@@ -101,6 +103,17 @@ fn feed_on(plan: &TurnablePlan, talks: &mut Talks, s: SwitchId, bytes: &[u8]) ->
         talks.feed_byte(&leg, s, *byte)?;
     }
     Ok(())
+}
+
+/// A switch died.
+fn dead_switch(plan: &TurnablePlan, talks: &mut Talks, s: SwitchId) -> Result<(), Memory>
+    requires serving { IsServing (view_of plan.now talks.old) }
+    requires switch { s.0 < switch_count plan.now.net.now }
+    ensures { OnOk result
+        (view_of plan.now talks.new ≡ dead_view s (view_of plan.now talks.old)) }
+{
+    let leg = plan.leg(talks.stage);
+    talks.die(leg.round, s)
 }
 
 impl<'a> Driver<'a> {
@@ -134,7 +147,8 @@ impl<'a> Driver<'a> {
         })
     }
 
-    /// Begins the next round: says Start, and then its messages. A round without changes is settled at once. By calling it
+    /// Begins the next round: says Start, and then its messages. A round without changes is settled at once, and one all of
+    /// whose switches are dead. By calling it
     /// the caller says that every packet that entered before the last Settle, in either way, has left, was dropped or was
     /// lost. After a refusal for another cause than memory the driver is as before; the first of the causes is the refusal.
     /// After want of memory it is of no use.
@@ -163,9 +177,9 @@ impl<'a> Driver<'a> {
     }
 
     /// Makes the session with a switch a waiting one, and says HELLO. By calling it the caller says that what was sent before
-    /// to this switch and isn't carried out by then never will be, and that the switch kept its table. Once its HELLO comes,
-    /// the messages of the running round to it that aren't answered are said again, with the same xids. After want of memory
-    /// the driver is of no use.
+    /// to this switch and isn't carried out by then never will be, and that the switch kept its table; of a dead switch, that
+    /// its table is the one that the events so far give. Once its HELLO comes, the messages of the running round to it that
+    /// aren't answered are said again, with the same xids. After want of memory the driver is of no use.
     pub fn reopen(&mut self, s: SwitchId) -> Result<(), Memory>
         requires serving { IsServing self.old }
         requires switch { s.0 < switch_count self.old.net }
@@ -173,6 +187,19 @@ impl<'a> Driver<'a> {
         ensures serving { OnOk result (IsServing self.new) }
     {
         self.talks.reopen(s)
+    }
+
+    /// A switch died: by calling it the caller says that no packet passes it any more, and that none will before its session
+    /// is opened again. Until then nothing is sent to it, what comes from it does nothing, and no round waits for it. Directly
+    /// before a round settles, in either way, its changes there are said to be made, or taken back. After want of memory the
+    /// driver is of no use.
+    pub fn dead(&mut self, s: SwitchId) -> Result<(), Memory>
+        requires serving { IsServing self.old }
+        requires switch { s.0 < switch_count self.old.net }
+        ensures ok { OnOk result (self.new ≡ dead_view s self.old) }
+        ensures serving { OnOk result (IsServing self.new) }
+    {
+        dead_switch(&self.plan, &mut self.talks, s)
     }
 
     /// Bytes come from a switch, in any pieces. What they make the driver say is said message by message. It costs as many

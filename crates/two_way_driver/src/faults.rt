@@ -10,7 +10,7 @@ pub enum CallFault {
     Finished,
     /// No round is settled, and none is running.
     NotBegun,
-    /// A switch with a change in the round has no open session. It is the least one.
+    /// A switch with a change in the round isn't dead and has no open session. It is the least one.
     NotOpen(SwitchId),
     /// Memory ran out.
     Memory,

@@ -28,7 +28,7 @@ pub fn said_is_run()
         → SaysRun (rollout_of net old rounds) (driver_after net rounds inverses calls).state }
 {}
 
-/// No round is begun, in either way, while a barrier request of another round isn't answered.
+/// No round is begun, in either way, while a barrier request of another round isn't answered. A dead switch isn't waited for.
 pub fn rounds_wait_for_answers()
     ensures { (net : Network) (rounds inverses : List (List Change)) (old : List (List Rule))
         (calls : List Call)

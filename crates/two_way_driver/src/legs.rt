@@ -31,13 +31,13 @@ pub struct Leg<'a> {
     pub(crate) asked: &'a [Change],
 }
 
-/// The first switch with a change in a round whose session isn't open.
+/// The first switch with a change in a round whose session isn't open. A dead one is passed over.
 pub(crate) fn first_not_open(net: &Net, round: &[Change], peers: &[Peer]) -> Option<SwitchId>
     requires { length peers.now ≡ switch_count net.now }
     ensures { result ≡ first_not_open peers.now (switches_changed net.now round.now) }
 {
     for number in 0..net.switches() {
-        if is_changed(round, number) && !peers[number as usize].is_open() {
+        if is_changed(round, number) && !peers[number as usize].is_open_or_dead() {
             return Some(SwitchId(number));
         }
     }

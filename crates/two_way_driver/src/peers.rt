@@ -1,7 +1,8 @@
 //! What a driver keeps of one switch.
-ghost use Rattle.std.specs.Prelude.{◌≡◌, is_none, length, IfOk, OnOk};
+ghost use Rattle.std.specs.Prelude.{◌≡◌, ◌||◌, is_none, length, IfOk, OnOk};
 ghost use Rattle.switch_session.specs.Channels.{is_open, after_byte};
-ghost use Rattle.two_way_driver.specs.Peers.{first_peer, opened_anew, failure_in, heard_of, heard_by, peer_after, asks, asks_again, answers, reopened_peer};
+ghost use Rattle.two_way_driver.specs.Peers.{first_peer, opened_anew, failure_in, heard_of, heard_by, peer_after, asks, asks_again, answers, reopened_peer, dead_peer, settled_peer};
+ghost use Rattle.two_way_driver.specs.Drivers.{is_open_or_dead};
 
 use net_base::Memory;
 use std::alloc::Global;
@@ -35,6 +36,8 @@ pub struct Peer {
     behind: Option<u32>,
     /// The barrier request of the running round, in the way it goes, that isn't answered.
     asked: Option<u32>,
+    /// No packet passes the switch any more: it is sent nothing, and isn't waited for.
+    is_dead: bool,
 }
 
 impl Model for Peer {
@@ -42,7 +45,12 @@ impl Model for Peer {
 
     ghost Value = { PeerState };
 
-    ghost view = { λ p. record { channel = p.channel.state; behind = p.behind; asked = p.asked } };
+    ghost view = { λ p. record {
+      channel = p.channel.state;
+      behind = p.behind;
+      asked = p.asked;
+      is_dead = p.is_dead;
+    } };
 }
 
 /// A channel that is open, with nothing unread, on which this barrier request is outstanding.
@@ -106,6 +114,7 @@ impl Peer {
             channel,
             behind: None,
             asked: None,
+            is_dead: false,
         })
     }
 
@@ -114,6 +123,20 @@ impl Peer {
         ensures { result ≡ is_open self.now.channel.session }
     {
         self.channel.is_open()
+    }
+
+    /// Whether the switch is dead.
+    pub(crate) fn is_dead(&self) -> bool
+        ensures { result ≡ self.now.is_dead }
+    {
+        self.is_dead
+    }
+
+    /// Whether a round with a change at the switch may begin: its session is open, or it is dead.
+    pub(crate) fn is_open_or_dead(&self) -> bool
+        ensures { result ≡ is_open_or_dead self.now }
+    {
+        self.channel.is_open() || self.is_dead
     }
 
     /// The session.
@@ -130,11 +153,11 @@ impl Peer {
         self.asked
     }
 
-    /// Whether no barrier request of the running round waits for its answer.
+    /// Whether no barrier request of the running round waits for its answer. A dead switch isn't waited for.
     pub(crate) fn is_answered(&self) -> bool
-        ensures { result ≡ is_none self.now.asked }
+        ensures { result ≡ (is_none self.now.asked || self.now.is_dead) }
     {
-        self.asked.is_none()
+        self.asked.is_none() || self.is_dead
     }
 
     /// A byte comes.
@@ -204,6 +227,26 @@ impl Peer {
     {
         self.channel = Channel::make(alloc)?;
         self.behind = None;
+        self.is_dead = false;
         Ok(())
+    }
+
+    /// The switch is dead now.
+    pub(crate) fn die(&mut self, alloc: Global) -> Result<(), Memory>
+        ensures { OnOk result (self.new ≡ dead_peer self.old) }
+    {
+        self.channel = Channel::make(alloc)?;
+        self.behind = None;
+        self.is_dead = true;
+        Ok(())
+    }
+
+    /// The running round is settled.
+    pub(crate) fn settle(&mut self)
+        ensures { self.new ≡ settled_peer self.old }
+    {
+        if self.is_dead {
+            self.asked = None;
+        }
     }
 }

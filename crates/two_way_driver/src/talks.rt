@@ -1,13 +1,13 @@
 //! What is said with all switches.
-ghost use Rattle.std.specs.Prelude.{◌≡◌, ◌<◌, ◌≤◌, ◌+◌, ◌^◌, ◌∷◌, ◌++◌, [], length, vec_len, is_none, not, replicate, slice_index_or, OnOk, IfOk};
+ghost use Rattle.std.specs.Prelude.{◌≡◌, ◌<◌, ◌≤◌, ◌+◌, ◌^◌, ◌∷◌, ◌++◌, [], false, length, vec_len, is_none, not, map, replicate, slice_index_or, OnOk, IfOk};
 ghost use Rattle.std.specs.List.{AllByRecursion, list_all};
 ghost use Rattle.topology.specs.Networks.{switch_count};
 ghost use Rattle.update_model.specs.Ranges.{IsPlanChange};
 ghost use Rattle.turned_rounds.specs.Batches.{xid_behind};
 ghost use Rattle.switch_session.specs.Channels.{after_byte, hello};
-ghost use Rattle.two_way_driver.specs.Peers.{first_peer, heard_by, peer_after};
-ghost use Rattle.two_way_driver.specs.Drivers.{with_said, log_if, send_if, sends, is_to_open, is_to, asks_if, asked_from, sent_out, settled_in, all_answered, settled_if_answered, change_notes, undo_notes, made_state, undone_state, carried_out, answered_state, opened_state, heard_state, fed_byte, first_driver, first_words, flagged_state, started_with, undone_with, turned_with, reopened_driver};
-ghost use Rattle.two_way_driver.specs.Inside.{state_of, FitsNext, heard_on, fed_on};
+ghost use Rattle.two_way_driver.specs.Peers.{first_peer, heard_by, peer_after, settled_peer};
+ghost use Rattle.two_way_driver.specs.Drivers.{with_said, log_if, send_if, sends, is_to_open, is_to, asks_if, asked_from, sent_out, settled_in, all_answered, settled_if_answered, change_notes, undo_notes, is_change_at, is_dead_made, is_dead_unmade, made_state, undone_state, carried_out, answered_state, opened_state, heard_state, fed_byte, first_driver, first_words, flagged_state, started_with, reopened_driver};
+ghost use Rattle.two_way_driver.specs.Inside.{state_of, FitsNext, heard_on, fed_on, dead_on, undone_on, turned_on};
 ghost use Rattle.net_base.specs.Switches.{most_switches};
 
 use crate::legs::Leg;
@@ -56,7 +56,8 @@ fn push_changes(
     round: &[Change],
     switch: SwitchId,
 ) -> Result<(), Memory>
-    ensures { OnOk result (said.new.items ≡ said.old.items ++ change_notes switch 0 round.now) }
+    ensures { OnOk result
+        (said.new.items ≡ said.old.items ++ change_notes (is_change_at switch) 0 round.now) }
 {
     for number in 0..round.len() {
         let is_here = round[number].switch().0 == switch.0;
@@ -71,7 +72,8 @@ fn push_undone(
     round: &[Change],
     switch: SwitchId,
 ) -> Result<(), Memory>
-    ensures { OnOk result (said.new.items ≡ said.old.items ++ undo_notes switch 0 round.now) }
+    ensures { OnOk result
+        (said.new.items ≡ said.old.items ++ undo_notes (is_change_at switch) 0 round.now) }
 {
     let mut left = round.len();
     while left > 0 {
@@ -80,6 +82,75 @@ fn push_undone(
         push_log(said, is_here, DriverEvent::Undo(left))?;
     }
     Ok(())
+}
+
+/// Whether a switch is dead.
+fn is_dead(peers: &[Peer], switch: SwitchId) -> bool
+    ensures { result ≡ (slice_index_or peers.now switch.0 first_peer).is_dead }
+{
+    match peers.get(switch.0 as usize) {
+        Some(peer) => peer.is_dead(),
+        None => false,
+    }
+}
+
+/// Whether the changes of a switch are in force.
+fn is_in_force(in_force: &[bool], switch: SwitchId) -> bool
+    ensures { result ≡ slice_index_or in_force.now switch.0 false }
+{
+    match in_force.get(switch.0 as usize) {
+        Some(flag) => *flag,
+        None => false,
+    }
+}
+
+/// Adds the events of the changes of dead switches that aren't in force, ascending.
+fn push_dead_changes(
+    said: &mut Vec<DriverOutput>,
+    round: &[Change],
+    peers: &[Peer],
+    in_force: &[bool],
+) -> Result<(), Memory>
+    ensures { OnOk result
+        (said.new.items
+        ≡ said.old.items ++ change_notes (is_dead_unmade peers.now in_force.now) 0 round.now) }
+{
+    for number in 0..round.len() {
+        let switch = round[number].switch();
+        let is_left = is_dead(peers, switch) && !is_in_force(in_force, switch);
+        push_log(said, is_left, DriverEvent::Change(number))?;
+    }
+    Ok(())
+}
+
+/// Adds the events of the changes of dead switches that are in force, descending: they are taken back.
+fn push_dead_undone(
+    said: &mut Vec<DriverOutput>,
+    round: &[Change],
+    peers: &[Peer],
+    in_force: &[bool],
+) -> Result<(), Memory>
+    ensures { OnOk result
+        (said.new.items
+        ≡ said.old.items ++ undo_notes (is_dead_made peers.now in_force.now) 0 round.now) }
+{
+    let mut left = round.len();
+    while left > 0 {
+        left -= 1;
+        let switch = round[left].switch();
+        let is_left = is_dead(peers, switch) && is_in_force(in_force, switch);
+        push_log(said, is_left, DriverEvent::Undo(left))?;
+    }
+    Ok(())
+}
+
+/// Of a round that is settled nothing is asked of the dead switches any more.
+fn settle_peers(peers: &mut Vec<Peer>)
+    ensures { peers.new.items ≡ map settled_peer peers.old.items }
+{
+    for number in 0..peers.len() {
+        peers[number].settle();
+    }
 }
 
 /// Says a message, if it is wanted.
@@ -232,35 +303,39 @@ impl Talks {
         Ok(())
     }
 
-    /// The running round is settled.
+    /// The running round, which has these changes, is settled.
     #[tactic(auto, unfolding(crate::specs::Drivers::settled_in))]
-    fn settle(&mut self) -> Result<(), Memory>
+    fn settle(&mut self, round: &[Change]) -> Result<(), Memory>
         requires { FitsNext self.old.stage }
         ensures { OnOk result
-            (state_of self.new ≡ settled_in self.old.stage (state_of self.old)) }
+            (state_of self.new ≡ settled_in round.now self.old.stage (state_of self.old)) }
     {
         match self.stage {
             Stage::Settled(_) => Ok(()),
             Stage::Onward(k) => {
+                push_dead_changes(&mut self.said, round, &self.peers, &self.in_force)?;
+                settle_peers(&mut self.peers);
                 self.stage = Stage::Settled(k + 1);
                 self.say(DriverOutput::Log(DriverEvent::Settle))
             }
             Stage::Undone(k) => {
+                push_dead_undone(&mut self.said, round, &self.peers, &self.in_force)?;
+                settle_peers(&mut self.peers);
                 self.stage = Stage::Settled(k);
                 self.say(DriverOutput::Log(DriverEvent::SettleBack))
             }
         }
     }
 
-    /// The running round is settled, if all its barrier requests are answered.
+    /// The running round, which has these changes, is settled, if all its barrier requests are answered.
     #[tactic(auto, unfolding(crate::specs::Drivers::settled_if_answered))]
-    fn settle_if_answered(&mut self) -> Result<(), Memory>
+    fn settle_if_answered(&mut self, round: &[Change]) -> Result<(), Memory>
         requires { FitsNext self.old.stage }
         ensures { OnOk result
-            (state_of self.new ≡ settled_if_answered (state_of self.old)) }
+            (state_of self.new ≡ settled_if_answered round.now (state_of self.old)) }
     {
         if all_answered(&self.peers) {
-            return self.settle();
+            return self.settle(round);
         }
         Ok(())
     }
@@ -322,7 +397,7 @@ impl Talks {
             return self.make_changes(round, switch);
         }
         self.carry_out(round, switch)?;
-        self.settle_if_answered()
+        self.settle_if_answered(round)
     }
 
     /// The session of a switch is open now: what isn't answered is sent again.
@@ -361,7 +436,7 @@ impl Talks {
         }
     }
 
-    /// A byte comes from a switch.
+    /// A byte comes from a switch. What comes from a dead one does nothing.
     pub(crate) fn feed_byte(&mut self, leg: &Leg, switch: SwitchId, byte: u8) -> Result<(), Memory>
         requires plan { AllByRecursion (IsPlanChange leg.now.net.now) leg.now.asked.now }
         requires peer { switch.0 < length self.old.peers.items }
@@ -370,6 +445,9 @@ impl Talks {
         ensures { OnOk result
             (state_of self.new ≡ fed_on leg.now switch byte (state_of self.old)) }
     {
+        if self.peers[switch.0 as usize].is_dead() {
+            return Ok(());
+        }
         let alloc = *self.peers.allocator();
         let heard = self.peers[switch.0 as usize].hear(alloc, byte)?;
         self.take(leg, switch, heard)
@@ -385,40 +463,40 @@ impl Talks {
     }
 
     /// The next round starts, which has these changes and stands behind k others.
-    pub(crate) fn start(&mut self, net: &Net, changes: &[Change], k: u32) -> Result<(), Memory>
-        requires plan { AllByRecursion (IsPlanChange net.now) changes.now }
+    pub(crate) fn start(&mut self, net: &Net, round: &[Change], k: u32) -> Result<(), Memory>
+        requires plan { AllByRecursion (IsPlanChange net.now) round.now }
         requires count { length self.old.peers.items ≡ switch_count net.now }
         requires fits { k + 1 < 2 ^ 32 }
         ensures { OnOk result
-            (state_of self.new ≡ started_with net.now changes.now k (state_of self.old)) }
+            (state_of self.new ≡ started_with net.now round.now k (state_of self.old)) }
     {
         self.say(DriverOutput::Log(DriverEvent::Start))?;
         self.flag(false)?;
-        self.send_out(net, changes, Stage::Onward(k))?;
-        self.settle_if_answered()
+        self.send_out(net, round, Stage::Onward(k))?;
+        self.settle_if_answered(round)
     }
 
-    /// The round that was settled last begins to be taken back, by these changes. It stands behind k others.
-    pub(crate) fn undo(&mut self, net: &Net, changes: &[Change], k: u32) -> Result<(), Memory>
-        requires plan { AllByRecursion (IsPlanChange net.now) changes.now }
-        requires count { length self.old.peers.items ≡ switch_count net.now }
+    /// The round of a leg, which was settled last, begins to be taken back. It stands behind k others.
+    pub(crate) fn undo(&mut self, leg: &Leg, k: u32) -> Result<(), Memory>
+        requires plan { AllByRecursion (IsPlanChange leg.now.net.now) leg.now.asked.now }
+        requires count { length self.old.peers.items ≡ switch_count leg.now.net.now }
         ensures { OnOk result
-            (state_of self.new ≡ undone_with net.now changes.now k (state_of self.old)) }
+            (state_of self.new ≡ undone_on leg.now k (state_of self.old)) }
     {
         self.say(DriverOutput::Log(DriverEvent::Back))?;
         self.flag(true)?;
-        self.turn(net, changes, k)
+        self.turn(leg, k)
     }
 
-    /// The running round is turned back, by these changes. It stands behind k others.
-    pub(crate) fn turn(&mut self, net: &Net, changes: &[Change], k: u32) -> Result<(), Memory>
-        requires plan { AllByRecursion (IsPlanChange net.now) changes.now }
-        requires count { length self.old.peers.items ≡ switch_count net.now }
+    /// The running round, that of a leg, is turned back. It stands behind k others.
+    pub(crate) fn turn(&mut self, leg: &Leg, k: u32) -> Result<(), Memory>
+        requires plan { AllByRecursion (IsPlanChange leg.now.net.now) leg.now.asked.now }
+        requires count { length self.old.peers.items ≡ switch_count leg.now.net.now }
         ensures { OnOk result
-            (state_of self.new ≡ turned_with net.now changes.now k (state_of self.old)) }
+            (state_of self.new ≡ turned_on leg.now k (state_of self.old)) }
     {
-        self.send_out(net, changes, Stage::Undone(k))?;
-        self.settle_if_answered()
+        self.send_out(leg.net, leg.asked, Stage::Undone(k))?;
+        self.settle_if_answered(leg.round)
     }
 
     /// The session with a switch is opened again.
@@ -430,5 +508,20 @@ impl Talks {
         let alloc = *self.peers.allocator();
         self.peers[switch.0 as usize].reopen(alloc)?;
         self.say(hello_to(alloc, switch)?)
+    }
+
+    /// A switch died. The running round has these changes.
+    pub(crate) fn die(&mut self, round: &[Change], switch: SwitchId) -> Result<(), Memory>
+        requires peer { switch.0 < length self.old.peers.items }
+        requires fits { FitsNext self.old.stage }
+        ensures { OnOk result
+            (state_of self.new ≡ dead_on round.now switch (state_of self.old)) }
+    {
+        if self.peers[switch.0 as usize].is_dead() {
+            return Ok(());
+        }
+        let alloc = *self.peers.allocator();
+        self.peers[switch.0 as usize].die(alloc)?;
+        self.settle_if_answered(round)
     }
 }

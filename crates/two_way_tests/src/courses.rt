@@ -16,6 +16,7 @@ pub(crate) enum Step {
     Start,
     Back,
     Reopen(u32),
+    Dead(u32),
     Feed(u32, &'static [u8]),
 }
 
@@ -158,6 +159,11 @@ fn do_step(rt: &impl Abort, driver: &mut Driver, step: Step) -> &'static [u8]
         Step::Reopen(number) => {
             assert!(rt; number < 2);
             driver.reopen(SwitchId(number)).expect(rt, "memory");
+            b""
+        }
+        Step::Dead(number) => {
+            assert!(rt; number < 2);
+            driver.dead(SwitchId(number)).expect(rt, "memory");
             b""
         }
         Step::Feed(number, bytes) => {

@@ -1,9 +1,9 @@
-//! Courses of a driver that turns back, against messages that are spelled by hand from OpenFlow 1.0.0.
+//! Courses of a driver that turns back and of which switches die, against messages that are spelled by hand from OpenFlow 1.0.0.
 //!
 //! The first round inserts a rule at s0, which sends out of port 2, and one at s1, which sends out of port 1. The second replaces
 //! the rule of s0 by one that sends out of port 1. Of a flow message the header stands here, the command (0 inserts, 2 replaces, 4
 //! deletes) and the actions.
-use crate::courses::Step::{Back, Feed, Reopen, Start};
+use crate::courses::Step::{Back, Dead, Feed, Reopen, Start};
 use crate::courses::{Step, course};
 use std::process::Abort;
 
@@ -265,6 +265,78 @@ fn a_session_is_opened_again(rt: HostRuntime) {
                 Feed(0, b"\x00\x05\xff"),
             ],
             &["s0 0103000900000005ff\nsettled 0\n"],
+        ),
+    ];
+    for (name, steps, lines) in rows.iter() {
+        is_said(&rt, name, steps, lines);
+    }
+}
+
+#[test]
+fn a_dead_switch_is_not_waited_for(rt: HostRuntime) {
+    let rows: [(&str, &[Step], &[&str]); 5] = [
+        (
+            "the last one that was waited for",
+            &[OPEN_0, OPEN_1, Start, Feed(0, REPLY_3), Dead(1), Dead(1)],
+            &["start\n", FIRST, "change 0\nchange 1\nsettle\nsettled 1\n"],
+        ),
+        (
+            "all are dead",
+            &[Dead(0), Dead(1), Start, Start, Back, Back],
+            &[
+                "start\nchange 0\nchange 1\nsettle\nstart\nchange 0\nsettle\n",
+                "back\nundo 0\nsettle back\nback\nundo 1\nundo 0\nsettle back\nsettled 0\n",
+            ],
+        ),
+        (
+            "it is there again in the round, and dies again",
+            &[
+                OPEN_0,
+                OPEN_1,
+                Start,
+                Dead(0),
+                Reopen(0),
+                OPEN_0,
+                Dead(0),
+                Feed(0, REPLY_3),
+                Feed(1, REPLY_4),
+            ],
+            &[
+                "start\n",
+                FIRST,
+                "s0 0100000800000000\ns0 010e005000000001 0000 0000000800020000\ns0 0112000800000003\n",
+                "change 1\nchange 0\nsettle\nsettled 1\n",
+            ],
+        ),
+        (
+            "its session had failed, and the next round is its alone",
+            &[
+                OPEN_0,
+                OPEN_1,
+                Start,
+                Feed(0, b"\x02\x02\x00\x08\x00\x00\x00\x00"),
+                Dead(0),
+                Feed(1, REPLY_4),
+                Start,
+            ],
+            &[
+                "start\n",
+                FIRST,
+                "failed s0 Version\nchange 1\nchange 0\nsettle\nstart\nchange 0\nsettle\nsettled 2\n",
+            ],
+        ),
+        (
+            "what comes from it does nothing",
+            &[
+                Dead(0),
+                Feed(
+                    0,
+                    b"\x01\x00\x00\x08\x00\x00\x00\x00\x01\x02\x00\x08\x00\x00\x00\x05",
+                ),
+                Reopen(0),
+                OPEN_0,
+            ],
+            &["s0 0100000800000000\nsettled 0\n"],
         ),
     ];
     for (name, steps, lines) in rows.iter() {

@@ -43,7 +43,7 @@ use Rattle.update_driver.proofs.AskedLaws.{barrier_for, told_at}
 use Rattle.update_driver.proofs.PieceLaws.{parts, fed-append, fed-nil}
 use Rattle.two_way_driver.specs.PeerStates.{PeerState}
 use Rattle.two_way_driver.specs.Peers.{first_peer, failure_in, peer_after, asks, answers}
-use Rattle.two_way_driver.specs.Drivers.{DriverState, peer_at, with_peer, with_said, sends, is_to_open, asked_from, sent_out, settled_in, all_answered, settled_if_answered, log_if, change_notes, made_state, carried_out, answered_state, sent_again, opened_state, running_round, asked_round, heard_state, fed_byte, state_after_bytes, first_words, first_driver, flagged_state, first_not_open, started_with, start_fault_in, started_in}
+use Rattle.two_way_driver.specs.Drivers.{DriverState, peer_at, with_peer, with_said, sends, is_to_open, asked_from, sent_out, settled_in, all_answered, settled_if_answered, log_if, change_notes, is_change_at, is_dead_unmade, made_state, carried_out, answered_state, sent_again, opened_state, running_round, asked_round, heard_state, heard_byte, fed_byte, state_after_bytes, first_words, first_driver, flagged_state, is_open_or_dead, first_not_open, started_with, start_fault_in, started_in}
 use Rattle.two_way_driver.specs.Calls.{DriverView, with_state, start_fault}
 use Rattle.two_way_driver.specs.Laws.{after_call, after_calls, driver_after, event_in, events_in, phase_of}
 use Rattle.two_way_driver.specs.Sending.{texts_to, texts_for}
@@ -57,17 +57,18 @@ use Rattle.two_way_driver.specs.declared.DriverOutput.TheVariants.{Send, Failed 
 use Rattle.two_way_driver.specs.declared.peers.ByteOutcome.{ByteOutcome}
 use Rattle.two_way_driver.specs.declared.peers.ByteOutcome.TheVariants.{Nothing, Opened, Answered, Replied}
 use Rattle.two_way_driver.proofs.ServingLaws.{length-asked}
-use Rattle.two_way_driver.proofs.SendingLaws.{texts-append, quiet, texts_open, changes_quiet, hello_first}
+use Rattle.two_way_driver.proofs.QuietLaws.{texts-append, quiet, texts_open, changes_quiet}
+use Rattle.two_way_driver.proofs.SendingLaws.{hello_first}
 use Rattle.update_driver.specs.Agreement.{two_way_call, Agree}
-use Rattle.update_driver.proofs.SwitchLaws.{same_waits, none_at, open_session, PeerAs, IsOnward, x, g, unanswered_heard, heard_is, more_none, peer_unanswered, peer_answered, opened_none}
+use Rattle.update_driver.proofs.SwitchLaws.{AllLive, same_waits, open_if_live, settled_live, no_dead_notes, none_at, open_session, PeerAs, IsOnward, x, g, unanswered_heard, heard_is, more_none, peer_unanswered, peer_answered, opened_none}
 use Rattle.update_driver.proofs.MessageLaws.{concat_texts, none_passes, find_alike, none_found, barriers_to, changed_from, asks_so, asked_barrier, batch_behind, batch_texts, barrier_is}
 
 -- ---- events
 
-notes_are : (s : SwitchId) (i : ℕ) (round : List Change) → events_in (change_notes s i round) ≡ onward_events (change_events s i round)
+notes_are : (s : SwitchId) (i : ℕ) (round : List Change) → events_in (change_notes (is_change_at s) i round) ≡ onward_events (change_events s i round)
 notes_are s i [] = refl
 notes_are s i (c ∷ round) =
-    filter_map-append event_in (log_if (eqb (switch_of c).0 s.0) (logged.Change i)) (change_notes s (suc i) round)
+    filter_map-append event_in (log_if (eqb (switch_of c).0 s.0) (logged.Change i)) (change_notes (is_change_at s) (suc i) round)
     ∙ ap (λ l. events_in (log_if (eqb (switch_of c).0 s.0) (logged.Change i)) ++ l) (notes_are s (suc i) round)
     ∙ chosen (eqb (switch_of c).0 s.0)
   where
@@ -102,13 +103,21 @@ module _ (net : Network) (rounds inverses : List (List Change)) where
     events : events_in e.said ≡ onward_events d.log
     next : e.next ≡ first_xid net rounds (begun_count d.phase)
 
+  -- no switch is dead
+  live : (d : OnwardState) (e : DriverState) → Follows d e → AllLive e.peers
+  live d e f i =
+      elim (cases_Bool (ltb i (switch_count net))) [
+        | inl t ↦ (f.each (switch_numbered i) (ltb-true i (switch_count net) t)).live
+        | inr over ↦ (let beyond = ltb-false i (switch_count net) over in let count = f.peers in ap (λ (p : PeerState). p.is_dead) (get_or_past e.peers i first_peer (omega arith)))
+      ]
+
   -- the running round is settled by both or by none
   module _ (d : OnwardState) (e : DriverState) (k : ℕ) (runs : e.stage ≡ Onward k) (f : Follows d e) where
     phase_is : d.phase ≡ phase.Running (suc k)
     phase_is = sym f.phase ∙ ap phase_of runs
 
     all_same : all_answered e.peers ≡ none_outstanding d.channels
-    all_same = same_waits e.peers d.channels (f.peers ∙ sym f.channels) (λ i less. (let count = f.peers in (f.each (switch_numbered i) (omega arith)).asked))
+    all_same = same_waits e.peers d.channels (f.peers ∙ sym f.channels) (live d e f) (λ i less. (let count = f.peers in (f.each (switch_numbered i) (omega arith)).asked))
 
     abbrev done : DriverState
     done = with_said (Log logged.Settle ∷ []) (record e { stage = Settled (suc k) })
@@ -125,11 +134,21 @@ module _ (net : Network) (rounds inverses : List (List Change)) where
       next = f.next ∙ ap (first_xid net rounds) (ap begun_count phase_is ∙ sym (ap (λ (p : Phase). begun_count (phase_after_settle p)) phase_is));
     }
 
-    follows_settled : Follows (one.settled_if_answered d) (settled_if_answered e)
-    unfolding settled_if_answered settled_in
-    follows_settled =
-        let Both : Bool → Bool → Stage → Type 0 = λ s t stage. Follows (cond s (record d { phase = phase_after_settle d.phase; log = d.log ++ event.Settle ∷ [] }) d) (cond t (settled_in stage e) e) in
-        let by : (t : Bool) → Both t t (Onward k) = λ t. elim t as (λ t. Both t t (Onward k)) [ true ↦ follows_done | false ↦ f ] in
+    done_is : (round : List Change) → settled_in round (Onward k) e ≡ done
+    unfolding settled_in
+    done_is round =
+        let As : List DriverOutput → List PeerState → DriverState = λ said peers. record e { stage = Settled (suc k); peers = peers; said = said ++ Log logged.Settle ∷ [] } in
+        let notes = change_notes (is_dead_unmade e.peers e.in_force) 0 round in
+        ap (λ l. As (e.said ++ notes) l) (settled_live e.peers (live d e f)) ∙ ap (λ l. As (e.said ++ l) e.peers) (no_dead_notes e.peers e.in_force (live d e f) 0 round) ∙ ap (λ l. As l e.peers) (append-nil e.said)
+
+    follows_settled : (round : List Change) → Follows (one.settled_if_answered d) (settled_if_answered round e)
+    unfolding settled_if_answered
+    follows_settled round =
+        let Both : Bool → Bool → Stage → Type 0 = λ s t stage. Follows (cond s (record d { phase = phase_after_settle d.phase; log = d.log ++ event.Settle ∷ [] }) d) (cond t (settled_in round stage e) e) in
+        let by : (t : Bool) → Both t t (Onward k) = λ t. elim t as (λ t. Both t t (Onward k)) [
+          | true ↦ subst (Follows (record d { phase = phase_after_settle d.phase; log = d.log ++ event.Settle ∷ [] })) (sym (done_is round)) follows_done
+          | false ↦ f
+        ] in
         subst (Both (none_outstanding d.channels) (all_answered e.peers)) (sym runs) (subst (λ t. Both t (all_answered e.peers) (Onward k)) all_same (by (all_answered e.peers)))
 
   -- what is kept of one switch changes
@@ -187,7 +206,7 @@ module _ (net : Network) (rounds inverses : List (List Change)) where
 
     came_is : fed_byte net rounds inverses s b e ≡ heard_state net rounds inverses s (cond (is_answered c.outstanding after.outstanding) Answered (unanswered_heard b c p (texts_to s e.said) h)) put
     unfolding fed_byte
-    came_is = ap (λ (x : ByteOutcome). heard_state net rounds inverses s x put) (heard_is b c p (texts_to s e.said) h)
+    came_is = cond-false p.is_dead e (heard_byte net rounds inverses s b e) h.live ∙ ap (λ (x : ByteOutcome). heard_state net rounds inverses s x put) (heard_is b c p (texts_to s e.said) h)
 
     abbrev more : List ℕ
     more = (g b c p (texts_to s e.said) h).more
@@ -244,14 +263,14 @@ module _ (net : Network) (rounds inverses : List (List Change)) where
       abbrev freed : DriverState
       freed = record e { peers = set e.peers s.0 free }
 
-      answered_is : (round : List Change) → answered_state round s put ≡ settled_if_answered (carried_out round s e.stage freed)
+      answered_is : (round : List Change) → answered_state round s put ≡ settled_if_answered round (carried_out round s e.stage freed)
       unfolding answered_state answers peer_after
       answered_is round =
           let More : ℕ → PeerState = λ x. record q { channel = after_request [] x q.channel; behind = None } in
-          let End : Option ℕ → PeerState → DriverState = λ o r. cond (is_some o) (made_state round s (with_peer s r put)) (settled_if_answered (carried_out round s e.stage (with_peer s r put))) in
+          let End : Option ℕ → PeerState → DriverState = λ o r. cond (is_some o) (made_state round s (with_peer s r put)) (settled_if_answered round (carried_out round s e.stage (with_peer s r put))) in
           ap (λ (r : PeerState). End r.behind (option_map_or (λ x. record r { channel = after_request [] x r.channel; behind = None }) r.behind (record r { asked = None }))) put_is
           ∙ ap (λ (o : Option ℕ). End o (option_map_or More o free)) h.behind
-          ∙ ap (λ (l : List PeerState). settled_if_answered (carried_out round s e.stage (record e { peers = l }))) (set-set e.peers s.0 q free)
+          ∙ ap (λ (l : List PeerState). settled_if_answered round (carried_out round s e.stage (record e { peers = l }))) (set-set e.peers s.0 q free)
 
       abbrev logged_too : List Change → OnwardState
       logged_too round = record (with_channel s after d) { log = d.log ++ change_events s 0 round }
@@ -259,10 +278,10 @@ module _ (net : Network) (rounds inverses : List (List Change)) where
       follows_made : (round : List Change) → Follows (logged_too round) (made_state round s freed)
       unfolding made_state
       follows_made round =
-          let notes = change_notes s 0 round in
+          let notes = change_notes (is_change_at s) 0 round in
           follows_put d e f s within after free (logged_too round) (record freed { in_force = set e.in_force s.0 true; said = e.said ++ notes }) refl refl
-          (subst (PeerAs after free) (sym (quiet s e.said notes (changes_quiet s s 0 round))) (peer_answered b c p (texts_to s e.said) h hit))
-          (λ t ne. quiet t e.said notes (changes_quiet t s 0 round)) (more_events e.said notes d.log (change_events s 0 round) f.events (notes_are s 0 round)) refl refl refl
+          (subst (PeerAs after free) (sym (quiet s e.said notes (changes_quiet s (is_change_at s) 0 round))) (peer_answered b c p (texts_to s e.said) h hit))
+          (λ t ne. quiet t e.said notes (changes_quiet t (is_change_at s) 0 round)) (more_events e.said notes d.log (change_events s 0 round) f.events (notes_are s 0 round)) refl refl refl
 
       made_stage : (round : List Change) → (made_state round s freed).stage ≡ e.stage
       unfolding made_state
@@ -276,12 +295,12 @@ module _ (net : Network) (rounds inverses : List (List Change)) where
       by_stage (Onward k) is =
           let round = round_after k rounds in
           let runs : worlds.running_round d.phase rounds ≡ round = ap (λ (y : Phase). worlds.running_round y rounds) (sym f.phase ∙ ap phase_of is) in
-          let to : answered_state (running_round rounds e.stage) s put ≡ settled_if_answered (made_state round s freed) =
-          ap (λ (y : Stage). answered_state (running_round rounds y) s put) is ∙ answered_is round ∙ ap (λ (y : Stage). settled_if_answered (carried_out round s y freed)) is in
+          let to : answered_state (running_round rounds e.stage) s put ≡ settled_if_answered round (made_state round s freed) =
+          ap (λ (y : Stage). answered_state (running_round rounds y) s put) is ∙ answered_is round ∙ ap (λ (y : Stage). settled_if_answered round (carried_out round s y freed)) is in
           let from : one.made_driver rounds s (with_channel s after d) ≡ one.settled_if_answered (logged_too round) =
           ap (λ l. one.settled_if_answered (logged_too l)) runs in
           subst (λ (y : OnwardState). Follows y (answered_state (running_round rounds e.stage) s put)) (sym from)
-          (subst (Follows (one.settled_if_answered (logged_too round))) (sym to) (follows_settled (logged_too round) (made_state round s freed) k (made_stage round ∙ is) (follows_made round)))
+          (subst (Follows (one.settled_if_answered (logged_too round))) (sym to) (follows_settled (logged_too round) (made_state round s freed) k (made_stage round ∙ is) (follows_made round) round))
       by_stage (Undone k) is = absurd (subst IsOnward is f.onward)
 
     byte_follows : Follows (one.driver_after_bytes rounds s (b ∷ []) d) (fed_byte net rounds inverses s b e)
@@ -381,6 +400,7 @@ module _ (net : Network) (rounds inverses : List (List Change)) (drivable : onwa
             sent = concat-append texts (map wire_text ms) ∙ ap (λ (l : List ℕ). l ++ concat (map wire_text ms)) seen.sent ∙ ap (λ (l : List ℕ). c.sent ++ l) (concat_texts ms);
             waits = λ w. (let f : Waiting ≡ Open = sym w ∙ is in absurd (cc));
             reads = seen.reads;
+            live = seen.live;
           })
 
       is_told : (cs : List Change) (ms : List Message) → AreFor cs ms → ((d : Change) (ds : List Change) → cs ≡ d ∷ ds → c.session ≡ Open)
@@ -404,9 +424,12 @@ module _ (net : Network) (rounds inverses : List (List Change)) (drivable : onwa
             ap (λ (p : PeerState). is_open p.channel.session) (get_or_past e.peers s.0 first_peer (omega arith)) ∙ sym (ap (λ (c : ChannelState). is_open c.session) (get_or_past d.channels s.0 first_channel (omega arith))))
       ]
 
+  same_ready : (d : OnwardState) (e : DriverState) → Follows net rounds inverses d e → (s : SwitchId) → is_open_or_dead (peer_at e s) ≡ is_open (channel_at d s).session
+  same_ready d e f s = open_if_live (peer_at e s) (live net rounds inverses d e f s.0) ∙ same_sessions d e f s
+
   same_missing : (d : OnwardState) (e : DriverState) → Follows net rounds inverses d e → (switches : List SwitchId) → first_not_open e.peers switches ≡ one.first_not_open d switches
   same_missing d e f switches =
-      find_alike (λ (s : SwitchId). not (is_open (get_or e.peers s.0 first_peer).channel.session)) (λ (s : SwitchId). not (is_open (channel_at d s).session)) (λ s. ap not (same_sessions d e f s)) switches
+      find_alike (λ (s : SwitchId). not (is_open_or_dead (get_or e.peers s.0 first_peer))) (λ (s : SwitchId). not (is_open (channel_at d s).session)) (λ s. ap not (same_ready d e f s)) switches
 
   abbrev view : DriverState → DriverView
   view e = record { net = net; rounds = rounds; inverses = inverses; state = e }
@@ -522,7 +545,7 @@ module _ (net : Network) (rounds inverses : List (List Change)) (drivable : onwa
     sent_stage = refl
 
     start_follows : Follows net rounds inverses (one.started_driver net rounds d) (started_with net changes k e)
-    start_follows = follows_settled net rounds inverses (begun net rounds d) sent k sent_stage sent_follows
+    start_follows = follows_settled net rounds inverses (begun net rounds d) sent k sent_stage sent_follows changes
 
   -- ---- all calls
 
@@ -574,7 +597,7 @@ module _ (net : Network) (rounds inverses : List (List Change)) (drivable : onwa
     phase = refl;
     each = λ s within. (
         let first_words_are : texts_to s (first_words 0 (switch_count net)) ≡ hello ∷ [] = hello_first s 0 (switch_count net) (omega arith) (omega arith) in
-        let here : PeerAs first_channel first_peer (hello ∷ []) = record { channel = refl; behind = refl; asked = refl; sent = append-nil hello; waits = λ w. refl; reads = λ going. front_nil } in
+        let here : PeerAs first_channel first_peer (hello ∷ []) = record { channel = refl; behind = refl; asked = refl; sent = append-nil hello; waits = λ w. refl; reads = λ going. front_nil; live = refl } in
         subst (λ (c : ChannelState). PeerAs c (get_or (replicate (switch_count net) first_peer) s.0 first_peer) (texts_to s (first_words 0 (switch_count net)))) (sym (get_replicated (switch_count net) s.0 first_channel))
         (subst (λ (p : PeerState). PeerAs first_channel p (texts_to s (first_words 0 (switch_count net)))) (sym (get_replicated (switch_count net) s.0 first_peer)) (subst (PeerAs first_channel first_peer) (sym first_words_are) here)));
     events = words_silent 0 (switch_count net);

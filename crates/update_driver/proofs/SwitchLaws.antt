@@ -1,9 +1,11 @@
 -- What the two drivers keep of one switch, byte by byte.
-use Rattle.std.proofs.Common.{◌≡◌, ℕ, suc, ◌<◌, ◌≤◌, Bool, true, false, cond, ltb, not, ◌&&◌, List, [], ◌∷◌, ◌++◌, length, drop, get_or, refl, sym, ap, ◌∙◌, subst, inl, inr, append-nil, length-append, arith}
+use Rattle.std.proofs.Common.{◌≡◌, ℕ, suc, ◌<◌, ◌≤◌, Bool, true, false, cond, ltb, not, ◌&&◌, ◌||◌, List, [], ◌∷◌, ◌++◌, length, map, drop, get_or, refl, sym, ap, ◌∙◌, subst, inl, inr, append-nil, length-append, arith}
 use Rattle.std.specs.Prelude.{Option, Some, None, is_some, is_none}
 use Rattle.std.specs.List.{concat}
-use Rattle.std.proofs.lemmas.Bool.{cond_both, ltb-true, ltb-false}
+use Rattle.std.proofs.lemmas.Bool.{cond-false, cond_both, ltb-true, ltb-false}
 use Rattle.std.proofs.lemmas.List.Folds.{concat-append}
+use Rattle.update_model.specs.Changes.{switch_of}
+use Rattle.update_model.specs.declared.Change.{Change}
 use Rattle.switch_session.specs.Channels.{ChannelState, first_channel, hello, is_open, is_failed, after_byte}
 use Rattle.switch_session.specs.Laws.{KeepsBarrier, ReadsAll}
 use Rattle.switch_session.specs.declared.Session.{Session}
@@ -15,8 +17,9 @@ use Rattle.update_driver.proofs.ListLaws.{and_parts_of, all_at, none_is}
 use Rattle.update_driver.proofs.SoundLaws.{no_barrier}
 use Rattle.update_driver.proofs.PieceLaws.{parts}
 use Rattle.two_way_driver.specs.PeerStates.{PeerState}
-use Rattle.two_way_driver.specs.Peers.{first_peer, opened_anew, failure_in, heard_of, heard_by, kept_of, peer_after}
-use Rattle.two_way_driver.specs.Drivers.{all_answered}
+use Rattle.two_way_driver.specs.Peers.{first_peer, opened_anew, failure_in, heard_of, heard_by, kept_of, peer_after, settled_peer}
+use Rattle.two_way_driver.specs.Drivers.{all_answered, log_if, change_notes, is_dead_unmade, is_open_or_dead}
+use Rattle.two_way_driver.specs.declared.DriverEvent.TheVariants as logged
 use Rattle.two_way_driver.specs.declared.Stage.{Stage}
 use Rattle.two_way_driver.specs.declared.Stage.TheVariants.{Settled, Onward, Undone}
 use Rattle.two_way_driver.specs.declared.peers.ByteOutcome.{ByteOutcome}
@@ -25,13 +28,37 @@ use Rattle.update_driver.proofs.ByteLaws.{with_sent, Grows, byte_grows}
 
 -- ---- the barrier requests that wait for answers
 
-pub same_waits : (peers : List PeerState) (channels : List ChannelState) → length peers ≡ length channels
+-- no switch is dead
+abbrev pub AllLive : List PeerState → Type 0
+AllLive peers = (i : ℕ) → (get_or peers i first_peer).is_dead ≡ false
+
+or_false : (a b : Bool) → b ≡ false → (a || b) ≡ a
+or_false true b e = refl
+or_false false b e = e
+
+pub same_waits : (peers : List PeerState) (channels : List ChannelState) → length peers ≡ length channels → AllLive peers
     → ((i : ℕ) → i < length peers → (get_or peers i first_peer).asked ≡ (get_or channels i first_channel).outstanding) → all_answered peers ≡ none_outstanding channels
-same_waits [] [] e at = refl
-same_waits [] (c ∷ channels) e at = absurd (omega arith)
-same_waits (p ∷ peers) [] e at = absurd (omega arith)
-same_waits (p ∷ peers) (c ∷ channels) e at =
-    ap (λ (o : Option ℕ). is_none o && all_answered peers) (at 0 (omega arith)) ∙ ap (λ b. is_none c.outstanding && b) (same_waits peers channels (omega arith) (λ i less. at (suc i) (omega arith)))
+same_waits [] [] e live at = refl
+same_waits [] (c ∷ channels) e live at = absurd (omega arith)
+same_waits (p ∷ peers) [] e live at = absurd (omega arith)
+same_waits (p ∷ peers) (c ∷ channels) e live at =
+    ap (λ b. b && all_answered peers) (or_false (is_none p.asked) p.is_dead (live 0)) ∙ ap (λ (o : Option ℕ). is_none o && all_answered peers) (at 0 (omega arith))
+    ∙ ap (λ b. is_none c.outstanding && b) (same_waits peers channels (omega arith) (λ i. live (suc i)) (λ i less. at (suc i) (omega arith)))
+
+pub open_if_live : (p : PeerState) → p.is_dead ≡ false → is_open_or_dead p ≡ is_open p.channel.session
+open_if_live p live = or_false (is_open p.channel.session) p.is_dead live
+
+-- where no switch is dead a round settles as it would
+pub settled_live : (peers : List PeerState) → AllLive peers → map settled_peer peers ≡ peers
+settled_live [] live = refl
+settled_live (p ∷ peers) live =
+    ap (λ (q : PeerState). q ∷ map settled_peer peers) (cond-false p.is_dead (record p { asked = None }) p (live 0)) ∙ ap (λ (l : List PeerState). p ∷ l) (settled_live peers (λ i. live (suc i)))
+
+pub no_dead_notes : (peers : List PeerState) (in_force : List Bool) → AllLive peers → (i : ℕ) (round : List Change) → change_notes (is_dead_unmade peers in_force) i round ≡ []
+no_dead_notes peers in_force live i [] = refl
+no_dead_notes peers in_force live i (c ∷ round) =
+    ap (λ b. log_if (b && not (get_or in_force (switch_of c).0 false)) (logged.Change i) ++ change_notes (is_dead_unmade peers in_force) (suc i) round) (live (switch_of c).0)
+    ∙ no_dead_notes peers in_force live (suc i) round
 
 pub none_at : (channels : List ChannelState) (i : ℕ) → none_outstanding channels ≡ true → (get_or channels i first_channel).outstanding ≡ None
 none_at channels i all = none_is (get_or channels i first_channel).outstanding (all_at no_barrier channels i first_channel all refl)
@@ -51,6 +78,7 @@ pub record PeerAs (c : ChannelState) (p : PeerState) (texts : List (List ℕ)) :
   pub sent : concat texts ≡ c.sent
   pub waits : c.session ≡ Waiting → c.outstanding ≡ None
   pub reads : ReadsAll c
+  pub live : p.is_dead ≡ false
 
 -- stages in which no round is being taken back
 abbrev pub IsOnward : Stage → Type 0
@@ -141,6 +169,7 @@ module _ (b : ℕ) (c : ChannelState) (p : PeerState) (texts : List (List ℕ)) 
     sent = concat-append texts words ∙ ap (λ (l : List ℕ). l ++ concat words) seen.sent ∙ ap (λ (l : List ℕ). c.sent ++ l) is ∙ sym g.sent;
     waits = next_waits;
     reads = next_reads;
+    live = seen.live;
   }
 
   -- the barrier request was answered: nothing was sent
@@ -165,6 +194,7 @@ module _ (b : ℕ) (c : ChannelState) (p : PeerState) (texts : List (List ℕ)) 
         sent = seen.sent ∙ sym (append-nil c.sent) ∙ ap (λ (l : List ℕ). c.sent ++ l) (sym empty) ∙ sym g.sent;
         waits = next_waits;
         reads = next_reads;
+        live = seen.live;
       }
 
   -- the session was opened: nothing was outstanding, and nothing is sent

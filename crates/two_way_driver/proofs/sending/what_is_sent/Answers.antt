@@ -1,4 +1,4 @@
-use Rattle.two_way_driver.proofs.SendingLaws.{each_call, all_calls}
+use Rattle.two_way_driver.proofs.SendingLaws.{each_call, none_to_dead, all_calls}
 use Rattle.two_way_driver.proofs.XidLaws.{goes_on}
 use Rattle.two_way_driver.proofs.sending.what_is_sent.Goals as goal
 
@@ -7,6 +7,9 @@ returns-clause-each c = λ net rounds inverses calls call s ok less. each_call n
 
 pub returns-clause-whole : goal.returns-clause-whole
 returns-clause-whole c = λ net rounds inverses calls s less. all_calls s net rounds inverses calls less
+
+pub returns-clause-dead : goal.returns-clause-dead
+returns-clause-dead c = λ net rounds inverses calls call s ok less. none_to_dead net rounds inverses calls call s ok less
 
 pub returns-clause-xids : goal.returns-clause-xids
 returns-clause-xids c = λ v call. goes_on v call

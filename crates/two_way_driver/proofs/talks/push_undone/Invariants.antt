@@ -1,11 +1,11 @@
 use Rattle.std.proofs.Common.{◌≡◌, ◌≤◌, ◌++◌, length, drop}
-use Rattle.two_way_driver.specs.Drivers.{undo_notes}
+use Rattle.two_way_driver.specs.Drivers.{undo_notes, is_change_at}
 use Rattle.two_way_driver.proofs.talks.push_undone.Given as goal
 
 abbrev pub invariant-loop-left : goal.invariant-loop-left
 invariant-loop-left l = record {
   within : l.left ≤ length l.round;
-  said : l.said.items ≡ l.initial.said.items ++ undo_notes l.switch l.left (drop l.left l.round);
+  said : l.said.items ≡ l.initial.said.items ++ undo_notes (is_change_at l.switch) l.left (drop l.left l.round);
 }
 
 abbrev pub decreases-loop-left : goal.decreases-loop-left
