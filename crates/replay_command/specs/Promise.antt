@@ -11,8 +11,8 @@ use Rattle.replay_command.specs.Replayed.{ReplayMeaning, FilesMeanReplay, FilesA
 
 -- the files and their names, what was written before and after the run, and how it ended
 pub record ReplayPromise (files : Files) (names : ReplayNames) (old new : Option (List ℕ)) (result : Status) : Type 0 where
-  -- Done comes exactly where the four files are within their limits and mean a network, a configuration, a plan and a schedule whose events
-  -- are a run of the plan's rounds from the old tables.
+  -- Done comes exactly where the four files mean a network, a configuration, a plan and a schedule whose events are a run of the plan's
+  -- rounds from the old tables.
   pub done : IsComplete result → ((result ≡ status.Done) ↔ FilesAreARun files names)
   -- Then the traces of the last state of this run were written.
   pub traces : (m : ReplayMeaning) → FilesMeanReplay files names m → result ≡ status.Done → Appends old new (traces_text m.net (end_state m))

@@ -11,4 +11,5 @@ mod replaying;
 pub use crate::command::replay;
 pub use crate::files::{ReplayFiles, read_replay_files};
 pub use crate::names::{ReplayNames, replay_names};
+pub use crate::readings::schedule_fault;
 pub use crate::replaying::not_a_run_reply;

@@ -13,7 +13,7 @@ use std::alloc::Global;
 use topology::Net;
 
 /// What is printed of a schedule's fault.
-fn schedule_fault(fault: ScheduleFault) -> Fault
+pub fn schedule_fault(fault: ScheduleFault) -> Fault
     ensures { words_of result ≡ schedule_words fault }
 {
     Fault {

@@ -9,6 +9,7 @@ mod running;
 mod schedule;
 mod traces;
 
+pub use event_lines::read_event;
 pub use event_texts::{add_line, events_text, runs_have_lines, schedule_text, switch_text};
 pub use fault::ScheduleFault;
 pub use read::read_schedule;

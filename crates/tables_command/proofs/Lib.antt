@@ -1,1 +1,3 @@
 pub mod ListedLaws
+pub mod TabledLaws
+pub mod TurnsNothingLaws

@@ -1,8 +1,13 @@
--- What is left of lists, step by step.
-use Rattle.std.proofs.Common.{◌≡◌, ℕ, zero, suc, ◌<◌, Bool, true, false, List, [], ◌∷◌, length, drop, get_or, slice_get, Some, refl, sym, ◌∙◌, ap, arith}
+-- What is left of lists, step by step, and inverses from the last change on.
+use Rattle.std.proofs.Common.{◌≡◌, ◌↔◌, ℕ, zero, suc, ◌+◌, ◌<◌, Bool, true, false, cond, List, [], ◌∷◌, ◌++◌, length, reverse, drop, get_or, slice_get, Some, None, refl, sym, ◌∙◌, ap, append-nil, arith}
 use Rattle.std.proofs.Math.Seq.{drop-nil}
+use Rattle.std.proofs.lemmas.List.{length-append, length-reverse, reverse-append}
+use Rattle.flow_rules.specs.Tables.{rules_at}
+use Rattle.flow_rules.specs.declared.rules.Rule.{Rule}
+use Rattle.update_model.specs.Changes.{switch_of}
 use Rattle.update_model.specs.declared.Change.{Change}
-use Rattle.tables_command.specs.Listed.{flagged_changes}
+use Rattle.law_two_way_runs.specs.Inverse.{inverse_of, inverse_round}
+use Rattle.tables_command.specs.Listed.{flagged_changes, neither}
 
 no_flags : (cs : List Change) → flagged_changes cs [] ≡ []
 no_flags [] = refl
@@ -28,3 +33,72 @@ flagged_off (c ∷ cs) [] (suc i) within off =
 flagged_off (c ∷ cs) (true ∷ flags) zero within off = absurd (off refl)
 flagged_off (c ∷ cs) (false ∷ flags) zero within off = refl
 flagged_off (c ∷ cs) (f ∷ flags) (suc i) within off = flagged_off cs flags i (omega arith) off
+
+-- where neither flag is on
+pub neither_at : (xs ys : List Bool) (i : ℕ) → (slice_get (neither xs ys) i ≡ Some true) ↔ ((slice_get xs i ≡ Some false) × (slice_get ys i ≡ Some false))
+neither_at [] ys i = (λ e. absurd (let f : None ≡ Some true = e in cc), λ h. absurd (let f : None ≡ Some false = h.0 in cc))
+neither_at (x ∷ xs) [] i = (λ e. absurd (let f : None ≡ Some true = e in cc), λ h. absurd (let f : None ≡ Some false = h.1 in cc))
+neither_at (true ∷ xs) (y ∷ ys) zero = (λ e. absurd (let f : Some false ≡ Some true = e in cc), λ h. absurd (let f : Some true ≡ Some false = h.0 in cc))
+neither_at (false ∷ xs) (true ∷ ys) zero = (λ e. absurd (let f : Some false ≡ Some true = e in cc), λ h. absurd (let f : Some true ≡ Some false = h.1 in cc))
+neither_at (false ∷ xs) (false ∷ ys) zero = (λ e. (refl, refl), λ h. refl)
+neither_at (x ∷ xs) (y ∷ ys) (suc i) = neither_at xs ys i
+
+-- one more change and its flag
+flagged_push : (cs : List Change) (flags : List Bool) (c : Change) (on : Bool) → length cs ≡ length flags
+    → flagged_changes (cs ++ c ∷ []) (flags ++ on ∷ []) ≡ flagged_changes cs flags ++ cond on (c ∷ []) []
+flagged_push [] [] c on e = refl
+flagged_push [] (f ∷ flags) c on e = absurd (omega arith)
+flagged_push (x ∷ cs) [] c on e = absurd (omega arith)
+flagged_push (x ∷ cs) (true ∷ flags) c on e = ap (λ l. x ∷ l) (flagged_push cs flags c on (omega arith))
+flagged_push (x ∷ cs) (false ∷ flags) c on e = flagged_push cs flags c on (omega arith)
+
+inverse_length : (tables : List (List Rule)) (round : List Change) → length (inverse_round tables round) ≡ length round
+inverse_length tables [] = refl
+inverse_length tables (c ∷ round) =
+    length-append (inverse_round tables round) (inverse_of (rules_at tables (switch_of c)) c ∷ []) ∙ omega (arith, inverse_length tables round)
+
+-- the flagged ones of the inverse of a round, with one change of the round more
+inverse_more : (tables : List (List Rule)) (c : Change) (round : List Change) (on : Bool) (flags : List Bool) → length flags ≡ length round
+    → flagged_changes (inverse_round tables (c ∷ round)) (reverse (on ∷ flags))
+    ≡ flagged_changes (inverse_round tables round) (reverse flags) ++ cond on (inverse_of (rules_at tables (switch_of c)) c ∷ []) []
+inverse_more tables c round on flags e =
+    ap (flagged_changes (inverse_round tables (c ∷ round))) (reverse-append (on ∷ []) flags)
+    ∙ flagged_push (inverse_round tables round) (reverse flags) (inverse_of (rules_at tables (switch_of c)) c) on
+    (inverse_length tables round ∙ sym e ∙ sym (length-reverse flags))
+
+same_drop : (i : ℕ) (xs : List Bool) (ys : List Change) → length xs ≡ length ys → length (drop i xs) ≡ length (drop i ys)
+same_drop zero xs ys e = e
+same_drop (suc i) [] [] e = refl
+same_drop (suc i) [] (y ∷ ys) e = absurd (omega arith)
+same_drop (suc i) (x ∷ xs) [] e = absurd (omega arith)
+same_drop (suc i) (x ∷ xs) (y ∷ ys) e = same_drop i xs ys (omega arith)
+
+split_at : {A : Type 0} (xs : List A) (i : ℕ) → i < length xs → (x : A) × (slice_get xs i ≡ Some x) × (drop i xs ≡ x ∷ drop (suc i) xs)
+split_at [] i less = absurd (omega arith)
+split_at (x ∷ xs) zero less = (x, refl, refl)
+split_at (x ∷ xs) (suc i) less = split_at xs i (omega arith)
+
+flag_at : (flags : List Bool) (i : ℕ) (on : Bool) → i < length flags → get_or flags i false ≡ on → drop i flags ≡ on ∷ drop (suc i) flags
+flag_at [] i on less e = absurd (omega arith)
+flag_at (f ∷ flags) zero on less e = ap (λ b. b ∷ flags) e
+flag_at (f ∷ flags) (suc i) on less e = flag_at flags i on (omega arith) e
+
+module _ (tables : List (List Rule)) (round : List Change) (flags : List Bool) (i n : ℕ) (next : i + 1 ≡ n) (less : i < length round) (same : length flags ≡ length round) where
+  abbrev made_from : ℕ → List Change
+  made_from k = flagged_changes (inverse_round tables (drop k round)) (reverse (drop k flags))
+
+  one_turn : (on : Bool) → get_or flags i false ≡ on → (c : Change) → drop i round ≡ c ∷ drop (suc i) round
+      → made_from i ≡ made_from n ++ cond on (inverse_of (rules_at tables (switch_of c)) c ∷ []) []
+  one_turn on flag c here =
+      let there : drop i flags ≡ on ∷ drop (suc i) flags = flag_at flags i on (omega arith) flag in
+      let step : suc i ≡ n = omega arith in
+      ap (λ l. flagged_changes (inverse_round tables l) (reverse (drop i flags))) here
+      ∙ ap (λ l. flagged_changes (inverse_round tables (c ∷ drop (suc i) round)) (reverse l)) there
+      ∙ inverse_more tables c (drop (suc i) round) on (drop (suc i) flags) (same_drop (suc i) flags round same)
+      ∙ ap (λ k. made_from k ++ cond on (inverse_of (rules_at tables (switch_of c)) c ∷ []) []) step
+
+  pub turn_off : get_or flags i false ≡ false → made_from i ≡ made_from n
+  turn_off flag = let (c, at, here) = split_at round i less in one_turn false flag c here ∙ append-nil (made_from n)
+
+  pub turn_on : (x : Change) → ((c : Change) → slice_get round i ≡ Some c → x ≡ inverse_of (rules_at tables (switch_of c)) c) → get_or flags i false ≡ true → made_from i ≡ made_from n ++ x ∷ []
+  turn_on x is flag = let (c, at, here) = split_at round i less in one_turn true flag c here ∙ ap (λ y. made_from n ++ y ∷ []) (sym (is c at))

@@ -1,13 +1,17 @@
--- The rules in all tables at the end of a recorded run, and the changes that aren't made yet.
-use Rattle.std.specs.Prelude.{ℕ, suc, Bool, cond, List, [], ◌∷◌, ◌++◌, map}
+-- The rules in all tables of a state of an update, and the changes that may have been made besides.
+use Rattle.std.specs.Prelude.{◌⊎◌, ℕ, suc, Bool, not, cond, ◌||◌, List, [], ◌∷◌, ◌++◌, map, reverse}
 use Rattle.net_base.specs.declared.ids.SwitchId.{SwitchId}
 use Rattle.flow_rules.specs.declared.rules.Rule.{Rule}
+use Rattle.update_model.specs.Mixtures.{Rollout, tables_before}
+use Rattle.update_model.specs.States.{settled_count}
 use Rattle.update_model.specs.Worlds.{WorldState, running_round}
 use Rattle.update_model.specs.declared.Change.{Change}
+use Rattle.law_two_way_runs.specs.Inverse.{inverse_round}
+use Rattle.two_way_replay.specs.Courses.{CourseState}
 use Rattle.plan_format.specs.declared.rules.PlanRule.{PlanRule}
 use Rattle.plan_text.specs.TablesText.{tables_text}
 use Rattle.command_base.specs.Answers.{Answer}
-use Rattle.replay_command.specs.Replayed.{ReplayMeaning, end_state, IsRunAnswer}
+use Rattle.tables_command.specs.Tabled.{TablesMeaning, tables_rollout, end_course, SaysOfCourse, SaysNoCourse}
 
 -- a rule at its switch
 abbrev pub placed_rule : SwitchId → Rule → PlanRule
@@ -28,14 +32,38 @@ flagged_changes [] flags = []
 flagged_changes (c ∷ cs) [] = []
 flagged_changes (c ∷ cs) (on ∷ flags) = cond on (c ∷ flagged_changes cs flags) (flagged_changes cs flags)
 
+-- where neither flag is on
+abbrev pub neither : List Bool → List Bool → List Bool
+neither [] ys = []
+neither (x ∷ xs) [] = []
+neither (x ∷ xs) (y ∷ ys) = not (x || y) ∷ neither xs ys
+
+-- where the running round is being undone, the inverses of its changes in force, in the order of the inverse round
+abbrev pub pending_inverses : Rollout → CourseState → List Change
+pending_inverses u c =
+    let k = settled_count c.state.phase in
+    cond c.is_undone (flagged_changes (inverse_round (tables_before u k) (running_round c.state.phase u.rounds)) (reverse c.state.in_force)) []
+
+-- the changes of the running round that aren't in force and weren't taken back since it was begun, in the order of the round
+abbrev pub unmade_changes : Rollout → CourseState → List Change
+unmade_changes u c = flagged_changes (running_round c.state.phase u.rounds) (neither c.state.in_force c.taken_back)
+
+-- the changes that a switch may have made besides what is known of it; none where no round is running
+abbrev pub pending_in : Rollout → CourseState → List Change
+pending_in u c = pending_inverses u c ++ unmade_changes u c
+
+-- the text of the tables at the end
+abbrev pub tables_of : TablesMeaning → List ℕ
+tables_of m = tables_text m.net (placed_rules (end_course m).state.tables) (pending_in (tables_rollout m) (end_course m))
+
+-- the answer of `tables`
+abbrev pub IsTablesAnswer : TablesMeaning → Answer → Type 0
+IsTablesAnswer m answer = SaysOfCourse tables_of m answer ⊎ SaysNoCourse m answer
+
 -- the changes of the running round that aren't made yet, in the order of the round; none where no round is running
 abbrev pub pending_changes : WorldState → List Change
 pending_changes w = flagged_changes (running_round w.state.phase w.rounds) w.state.pending
 
--- the text of the tables at the end of a run
-abbrev pub tables_of : ReplayMeaning → List ℕ
-tables_of m = tables_text m.net (placed_rules (end_state m).state.tables) (pending_changes (end_state m))
-
--- the answer of `tables`
-abbrev pub IsTablesAnswer : ReplayMeaning → Answer → Type 0
-IsTablesAnswer m answer = IsRunAnswer tables_of m answer
+-- the text of the tables of a run that is never turned back
+abbrev pub tables_of_run : WorldState → List ℕ
+tables_of_run w = tables_text w.net (placed_rules w.state.tables) (pending_changes w)

@@ -6,17 +6,29 @@ use Rattle.command_base.specs.declared.status.Status.{Status}
 use Rattle.command_base.specs.declared.status.Status.TheVariants as status
 use Rattle.command_base.specs.Runs.{IsComplete}
 use Rattle.replay_command.specs.Names.{ReplayNames}
-use Rattle.replay_command.specs.Replayed.{ReplayMeaning, FilesMeanReplay, FilesAreARun, FilesAreNoRun, NamesFirstLine}
-use Rattle.tables_command.specs.Listed.{tables_of}
+use Rattle.replay_command.specs.Replayed.{ReplayMeaning, FilesMeanReplay, FilesAreARun, FilesAreNoRun, NamesFirstLine, end_state}
+use Rattle.tables_command.specs.Listed.{tables_of, tables_of_run}
+use Rattle.tables_command.specs.Tabled.{TablesMeaning, FilesMeanTables, FilesAreACourse, FilesAreNoCourse, NamesFirstStep}
+
+-- what holds where the files mean what they mean to `replay`: the schedule turns nothing back
+pub record TurnsNothing (files : Files) (names : ReplayNames) (m : ReplayMeaning) (old new : Option (List ℕ)) (result : Status) : Type 0 where
+  pub done : IsComplete result → ((result ≡ status.Done) ↔ FilesAreARun files names)
+  pub tables : result ≡ status.Done → Appends old new (tables_of_run (end_state m))
+  pub not_a_run : IsComplete result → ((result ≡ status.NotARun) ↔ FilesAreNoRun files names)
+  pub first : result ≡ status.NotARun → NamesFirstLine m old new
 
 -- the files and their names, what was written before and after the run, and how it ended
 pub record TablesPromise (files : Files) (names : ReplayNames) (old new : Option (List ℕ)) (result : Status) : Type 0 where
-  -- Done comes exactly where it does for `replay`: all files are read, and the events are a run of the plan's rounds from the old tables.
-  pub done : IsComplete result → ((result ≡ status.Done) ↔ FilesAreARun files names)
-  -- Then the rules in all tables of the last state of this run were written, by switch and then in the order of its table, and exactly
-  -- those changes of its running round that aren't made in that state.
-  pub tables : (m : ReplayMeaning) → FilesMeanReplay files names m → result ≡ status.Done → Appends old new (tables_of m)
-  -- NotARun comes exactly where all files are read and some event isn't enabled; the line names that of the first one, as that of `replay`
-  -- does.
-  pub not_a_run : IsComplete result → ((result ≡ status.NotARun) ↔ FilesAreNoRun files names)
-  pub first : (m : ReplayMeaning) → FilesMeanReplay files names m → result ≡ status.NotARun → NamesFirstLine m old new
+  -- Done comes exactly where the four files are within their limits and mean a network, a configuration, a plan and a schedule by which the
+  -- plan's rounds can be carried out and turned back from the old tables, step by step.
+  pub done : IsComplete result → ((result ≡ status.Done) ↔ FilesAreACourse files names)
+  -- Then the rules in all tables of the last state were written, by switch and then in the order of its table, and the changes that a
+  -- switch may have made besides: of a running round that is being undone the inverses of those in force, and of each running round the
+  -- changes that aren't in force and weren't taken back since it was begun.
+  pub tables : (m : TablesMeaning) → FilesMeanTables files names m → result ≡ status.Done → Appends old new (tables_of m)
+  -- NotARun comes exactly where all files are read and some step isn't enabled; the line names that of the first one.
+  pub not_a_run : IsComplete result → ((result ≡ status.NotARun) ↔ FilesAreNoCourse files names)
+  pub first : (m : TablesMeaning) → FilesMeanTables files names m → result ≡ status.NotARun → NamesFirstStep m old new
+  -- Where the schedule is one that `replay` reads, Done and NotARun come exactly where they do for `replay`, with the same lines; the tables
+  -- are those of the last state of its run, and the changes exactly those of its running round that aren't made in that state.
+  pub turns_nothing : (m : ReplayMeaning) → FilesMeanReplay files names m → TurnsNothing files names m old new result

@@ -7,7 +7,7 @@ use Rattle.tables_command.proofs.listing.placed_rules.Goals as goal
 pub returns : goal.returns
 returns c =
     let n = c.loop-number.number in
-    let tables = c.args.world.now.state.tables in
+    let tables = c.args.world.now.course.state.tables in
     let end : c.switches-number-end.result ≡ length tables =
     c.switches-number-end.ensures.value ∙ ap switch_count c.net.ensures ∙ sym c.requires in
     let none : drop n tables ≡ [] = drop_all n tables (omega arith) in

@@ -4,4 +4,4 @@ use Rattle.tables_command.proofs.listing.placed_rules.Given as goal
 
 abbrev pub invariant-loop-number : goal.invariant-loop-number
 invariant-loop-number l =
-    l.listed.items ++ placed_from l.number (drop l.number l.world.state.tables) ≡ placed_rules l.world.state.tables
+    l.listed.items ++ placed_from l.number (drop l.number l.world.course.state.tables) ≡ placed_rules l.world.course.state.tables
