@@ -1,0 +1,17 @@
+pub mod Entries
+pub mod Bytes
+pub mod Batch
+pub mod Link
+pub mod Hears
+pub mod Asks
+pub mod Sides
+pub mod Words
+pub mod Keeps
+pub mod Feeds
+pub mod Starts
+pub mod Logged
+pub mod Steps
+pub mod Runs
+pub mod Pending
+pub mod Room
+pub mod Ends

@@ -1,0 +1,9 @@
+pub mod RequestLaws
+pub mod HearingLaws
+pub mod TrafficLaws
+pub mod KnowingLaws
+pub mod FedLaws
+pub mod BeginLaws
+pub mod CallLaws
+pub mod TurningLaws
+pub mod FailingLaws
