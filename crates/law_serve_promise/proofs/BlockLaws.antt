@@ -17,11 +17,11 @@ use Rattle.two_way_driver.specs.Laws as call
 use Rattle.two_way_driver.specs.Words.{after_call_anew, after_calls_anew, said_by_each, joined_words}
 use Rattle.two_way_driver.specs.declared.DriverOutput.{DriverOutput}
 use Rattle.two_way_driver.proofs.WordLaws.{calls_said, calls_kept}
-use Rattle.serve_lines.specs.Lines.{reopened_in, fed_in, worded_in, text_in, spelled_in, line_in, IsLineOf}
+use Rattle.serve_lines.specs.Lines.{reopened_in, dead_in, fed_in, worded_in, text_in, spelled_in, line_in, IsLineOf}
 use Rattle.serve_lines.specs.declared.fault.LineFault.{LineFault}
 use Rattle.serve_lines.specs.declared.fault.LineFault.TheVariants.{Bad}
 use Rattle.serve_lines.specs.declared.line.ServeLine.{ServeLine}
-use Rattle.serve_lines.specs.declared.line.ServeLine.TheVariants.{Comment, Start, Back, Reopen, Feed}
+use Rattle.serve_lines.specs.declared.line.ServeLine.TheVariants.{Comment, Start, Back, Reopen, Feed, Dead}
 use Rattle.serve_command.specs.Served.{after_read, after_line, line_block, after_lines, blocks, first_block, served_text}
 use Rattle.serve_command.specs.Serving.{text_on}
 use Rattle.check_base.specs.Checks.{CheckMeaning}
@@ -39,6 +39,7 @@ keeps_read v (Ok Start) = cond_both (is_none (start_fault v)) (started_view v) v
 keeps_read v (Ok Back) = cond_both (is_none (back_fault v)) (turned_view v) v (λ (w : DriverView). KeepsPlan v w) (λ b. record { net = refl; rounds = refl }) (λ b. record { net = refl; rounds = refl })
 keeps_read v (Ok (Reopen s)) = record { net = refl; rounds = refl }
 keeps_read v (Ok (Feed s bytes)) = record { net = refl; rounds = refl }
+keeps_read v (Ok (Dead s)) = record { net = refl; rounds = refl }
 keeps_read v (Err bad) = record { net = refl; rounds = refl }
 
 pub keeps_line : (v : DriverView) (line : List ℕ) → KeepsPlan v (after_line v line)
@@ -104,6 +105,7 @@ read_said w (Ok Start) = refl
 read_said w (Ok Back) = refl
 read_said w (Ok (Reopen s)) = refl
 read_said w (Ok (Feed s bytes)) = refl
+read_said w (Ok (Dead s)) = refl
 read_said w (Err bad) = refl
 
 read_behind : (w : DriverView) (r : Result ServeLine LineFault) → silent_view (after_read (silent_view w) r) ≡ silent_view (given w (call_read r))
@@ -112,6 +114,7 @@ read_behind w (Ok Start) = refl
 read_behind w (Ok Back) = refl
 read_behind w (Ok (Reopen s)) = refl
 read_behind w (Ok (Feed s bytes)) = refl
+read_behind w (Ok (Dead s)) = refl
 read_behind w (Err bad) = refl
 
 pub line_behind : (w : DriverView) (line : List ℕ) → after_line (silent_view w) line ≡ silent_view (given w (call_in w.net line))
@@ -124,6 +127,7 @@ given_net w (Some call.Start) = cond_both (is_none (start_fault (silent_view w))
 given_net w (Some call.Back) = cond_both (is_none (back_fault (silent_view w))) (turned_view (silent_view w)) (silent_view w) (λ (x : DriverView). x.net ≡ w.net) (λ b. refl) (λ b. refl)
 given_net w (Some (call.Reopen s)) = refl
 given_net w (Some (call.Feed s bytes)) = refl
+given_net w (Some (call.Dead s)) = refl
 
 more_said : (w : DriverView) (o : Option Call) (calls : List Call) → said_given w o ++ joined_words (said_by_each (given w o) calls) ≡ joined_words (said_by_each w (cons_option o calls))
 more_said w None calls = refl
@@ -178,6 +182,10 @@ module _ (net : Network) where
   unfolding reopened_in
   reopened_within name = ok_need (switch_named net.names name) Bad _ (IsLineOf net) (λ s named. named_within net.names name s named)
 
+  dead_within : (name : List ℕ) → IfOk (dead_in net name) (IsLineOf net)
+  unfolding dead_in
+  dead_within name = ok_need (switch_named net.names name) Bad _ (IsLineOf net) (λ s named. named_within net.names name s named)
+
   fed_within : (text : List ℕ) → IfOk (fed_in net text) (IsLineOf net)
   unfolding fed_in
   fed_within text =
@@ -190,7 +198,8 @@ module _ (net : Network) where
       ok_need (cut_first 32 text) Bad _ (IsLineOf net)
       (λ parts cut.
       ok_either (bytes_eq parts.0 (codes "feed")) (fed_in net parts.1) _ (IsLineOf net) (fed_within parts.1)
-      (ok_either (bytes_eq parts.0 (codes "reopen")) (reopened_in net parts.1) (Err Bad) (IsLineOf net) (reopened_within parts.1) tt))
+      (ok_either (bytes_eq parts.0 (codes "reopen")) (reopened_in net parts.1) _ (IsLineOf net) (reopened_within parts.1)
+      (ok_either (bytes_eq parts.0 (codes "dead")) (dead_in net parts.1) (Err Bad) (IsLineOf net) (dead_within parts.1) tt)))
 
   text_within : (text : List ℕ) → IfOk (text_in net text) (IsLineOf net)
   unfolding text_in
@@ -213,6 +222,7 @@ module _ (net : Network) where
   more_calls (Ok Back) calls within all = (tt, all)
   more_calls (Ok (Reopen s)) calls within all = (within, all)
   more_calls (Ok (Feed s bytes)) calls within all = (within, all)
+  more_calls (Ok (Dead s)) calls within all = (within, all)
   more_calls (Err bad) calls within all = all
 
   pub calls_within : (lines : List (List ℕ)) → AllByRecursion (IsCall net) (calls_in net lines)

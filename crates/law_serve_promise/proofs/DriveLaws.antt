@@ -29,7 +29,7 @@ use Rattle.drive_command.proofs.InputLaws.{are_calls}
 use Rattle.serve_lines.specs.Lines.{line_in}
 use Rattle.serve_lines.specs.declared.fault.LineFault.{LineFault}
 use Rattle.serve_lines.specs.declared.line.ServeLine.{ServeLine}
-use Rattle.serve_lines.specs.declared.line.ServeLine.TheVariants.{Comment, Start, Back, Reopen, Feed}
+use Rattle.serve_lines.specs.declared.line.ServeLine.TheVariants.{Comment, Start, Back, Reopen, Feed, Dead}
 use Rattle.serve_lines.specs.declared.blocks.LineOutcome.TheVariants.{Went}
 use Rattle.serve_command.specs.Served.{call_outcome, refusal_of}
 use Rattle.law_serve_promise.specs.Told.{told_read, told_lines, call_read, call_in, calls_in}
@@ -43,6 +43,7 @@ MayCall w call.Start = is_none (start_fault w) ≡ true
 MayCall w call.Back = Unit {0}
 MayCall w (call.Reopen s) = Unit {0}
 MayCall w (call.Feed s bytes) = Unit {0}
+MayCall w (call.Dead s) = Unit {0}
 
 abbrev MayCallAll : DriverView → List Call → Type 0
 MayCallAll w [] = Unit {0}
@@ -67,6 +68,7 @@ may_read w (Ok Start) calls ok rest = (went_free (start_fault (silent_view w)) (
 may_read w (Ok Back) calls ok rest = (tt, rest)
 may_read w (Ok (Reopen s)) calls ok rest = (tt, rest)
 may_read w (Ok (Feed s bytes)) calls ok rest = (tt, rest)
+may_read w (Ok (Dead s)) calls ok rest = (tt, rest)
 may_read w (Err bad) calls ok rest = rest
 
 may_lines : (net : Network) (w : DriverView) (lines : List (List ℕ)) → w.net ≡ net → AllByRecursion EndsOk (told_lines (silent_view w) lines) → MayCallAll w (calls_in net lines)

@@ -3,4 +3,5 @@ mod FileLaws
 mod BlockLaws
 mod DriveLaws
 mod RunningLaws
+mod AnsweredLaws
 mod PromiseLaws

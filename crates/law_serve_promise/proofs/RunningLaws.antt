@@ -1,5 +1,5 @@
 -- What the blocks of a certified plan say of its update.
-use Rattle.std.proofs.Common.{◌≡◌, ℕ, ◌<◌, Result, Ok, Err, List, [], ◌∷◌, ◌++◌, map, refl, sym, ap, ◌∙◌, subst}
+use Rattle.std.proofs.Common.{◌≡◌, ◌≢◌, ℕ, ◌<◌, Result, Ok, Err, List, [], ◌∷◌, ◌++◌, map, refl, sym, ap, ◌∙◌, subst}
 use Rattle.std.specs.Prelude.{Option, Some, None}
 use Rattle.std.specs.List.{concat}
 use Rattle.file_access.specs.Outside.{Files}
@@ -27,7 +27,7 @@ use Rattle.two_way_driver.specs.declared.DriverOutput.{DriverOutput}
 use Rattle.two_way_driver.specs.declared.Stage.{Stage}
 use Rattle.two_way_driver.specs.declared.faults.CallFault.{CallFault}
 use Rattle.two_way_driver.proofs.RunLaws.{says_run, begins_answered}
-use Rattle.two_way_driver.proofs.SendingLaws.{each_call, all_calls}
+use Rattle.two_way_driver.proofs.SendingLaws.{each_call, none_to_dead, all_calls}
 use Rattle.two_way_driver.proofs.ServingLaws.{fed-append}
 use Rattle.two_way_driver.proofs.WordLaws.{call_is}
 use Rattle.two_way_driver.proofs.XidLaws.{goes_on}
@@ -38,16 +38,19 @@ use Rattle.drive_command.proofs.InputLaws.{are_calls, driven_calls}
 use Rattle.serve_lines.specs.Lines.{line_in}
 use Rattle.serve_lines.specs.declared.fault.LineFault.{LineFault}
 use Rattle.serve_lines.specs.declared.line.ServeLine.{ServeLine}
-use Rattle.serve_lines.specs.declared.line.ServeLine.TheVariants.{Comment, Start, Back, Reopen, Feed}
+use Rattle.serve_lines.specs.declared.line.ServeLine.TheVariants.{Comment, Start, Back, Reopen, Feed, Dead}
 use Rattle.serve_lines.specs.declared.blocks.LineOutcome.TheVariants.{Went}
 use Rattle.serve_command.specs.Served.{call_outcome, after_read, outcome_read, after_line}
 use Rattle.check_base.specs.Checks.{CheckMeaning, task_in, FilesMeanPlan}
 use Rattle.check_base.specs.Names.{CheckNames}
-use Rattle.law_serve_promise.specs.Told.{told_first, told_line, driver_of, driver_behind, call_read, call_in, calls_in}
-use Rattle.law_serve_promise.specs.Running.{state_on, TellsRun, TellsPhase, SendsBy, GoesOnBy, SendsAsAsked, AreCut, SaysTheSame, AreTaken, TellsAs}
+use Rattle.law_serve_promise.specs.Told.{told_first, told_line, driver_of, driver_behind, call_read, call_in, calls_in, said_in, told_on}
+use Rattle.law_serve_promise.specs.Running.{state_on, TellsRun, TellsPhase, SendsBy, SilentBy, GoesOnBy, SendsAsAsked, AreCut, SaysTheSame, AreTaken, TellsAs}
 use Rattle.law_serve_promise.proofs.BlockLaws.{keeps_lines, behind-append, given, line_behind, words_are, driver_is, calls_within}
 use Rattle.law_serve_promise.proofs.DriveLaws.{refused_goes, takes_inputs}
 use Rattle.law_serve_promise.proofs.FileLaws.{old_user, new_user, good_rounds, turnable, drivable}
+use Rattle.law_wire.proofs.Ends.{certified_safe, certified_tables, certified_never_stuck}
+use Rattle.law_wire.specs.Laws.{IsWireConsistent, AreTablesOnWire, IsNeverStuck}
+use Rattle.law_wire.specs.Network.{driver_at}
 
 -- ---- how a line ended
 
@@ -62,6 +65,7 @@ went_read v (Ok Start) stage e = went_ended (start_fault v) (after_call v call.S
 went_read v (Ok Back) stage e = went_ended (back_fault v) (after_call v call.Back) stage e
 went_read v (Ok (Reopen s)) stage e = went_ended None (after_call v (call.Reopen s)) stage e
 went_read v (Ok (Feed s bytes)) stage e = went_ended None (after_call v (call.Feed s bytes)) stage e
+went_read v (Ok (Dead s)) stage e = went_ended None (after_call v (call.Dead s)) stage e
 went_read v (Err bad) stage e = absurd (cc)
 
 went_line : (v : DriverView) (line : List ℕ) (stage : Stage) → (told_line v line).outcome ≡ Went stage → (after_line v line).state.stage ≡ stage
@@ -77,8 +81,20 @@ sends_read w s (Ok Comment) each = refl
 sends_read w s (Ok Start) each = each call.Start
 sends_read w s (Ok Back) each = each call.Back
 sends_read w s (Ok (Reopen t)) each = each (call.Reopen t)
-sends_read w s (Ok (Feed t bytes)) each = let sent = each (call.Feed t bytes) in record { here = sent.here; others = sent.others }
+sends_read w s (Ok (Feed t bytes)) each = let sent = each (call.Feed t bytes) in record { here = sent.here; dead = sent.dead; others = sent.others }
+sends_read w s (Ok (Dead t)) each = each (call.Dead t)
 sends_read w s (Err bad) each = refl
+
+-- a call that sends nothing to a switch, as a line
+silent_read : (w : DriverView) (s : SwitchId) (r : Result ServeLine LineFault) → ((c : Call) → c ≢ call.Reopen s → texts_to s (after_call_anew w c).state.said ≡ []) → call_read r ≢ Some (call.Reopen s)
+    → texts_to s (after_read (silent_view w) r).state.said ≡ []
+silent_read w s (Ok Comment) each other = refl
+silent_read w s (Ok Start) each other = each call.Start (λ e. other (ap Some e))
+silent_read w s (Ok Back) each other = each call.Back (λ e. other (ap Some e))
+silent_read w s (Ok (Reopen t)) each other = each (call.Reopen t) (λ e. other (ap Some e))
+silent_read w s (Ok (Feed t bytes)) each other = each (call.Feed t bytes) (λ e. other (ap Some e))
+silent_read w s (Ok (Dead t)) each other = each (call.Dead t) (λ e. other (ap Some e))
+silent_read w s (Err bad) each other = refl
 
 goes_on_read : (w : DriverView) (o : Option Call) → GoesOnBy (silent_view w) (silent_view (given w o)) o
 goes_on_read w None = refl
@@ -148,6 +164,18 @@ module _ (files : Files) (names : CheckNames) (m : CheckMeaning) (mean : FilesMe
     pub both_ways : IsTwoWayConsistent m.update m.plan.rounds (is_two_phase m.plan.evidence)
     both_ways = both_ways_consistent (task_in m) (old_user files names m mean) (new_user files names m mean) m.plan.evidence certified
 
+    pub safe_on_wire : IsWireConsistent m.update m.plan.rounds (is_two_phase m.plan.evidence)
+    safe_on_wire = certified_safe (task_in m) m.plan.evidence (old_user files names m mean) (new_user files names m mean) certified (turnable files names m mean)
+
+    pub tables_on_wire : AreTablesOnWire (rollout (task_in m))
+    tables_on_wire = certified_tables (task_in m) m.plan.evidence (old_user files names m mean) (new_user files names m mean) certified (turnable files names m mean)
+
+    pub is_never_stuck : IsNeverStuck (rollout (task_in m))
+    is_never_stuck = certified_never_stuck (task_in m) m.plan.evidence (old_user files names m mean) (new_user files names m mean) certified (turnable files names m mean)
+
+    pub wire_says : (lines : List (List ℕ)) → said_in (told_on m lines) ≡ (driver_at (rollout (task_in m)) (calls_in m.update.net lines)).state.said
+    wire_says lines = words_are m lines
+
     -- lines that ask for what inputs of `drive` are
     pub as_drive : (lines : List (List ℕ)) (inputs : List InputLine) (one : OnwardState) → AreInputs net inputs → calls_in net lines ≡ map two_way_call (calls_of inputs) → driven_by net m.plan.rounds inputs ≡ Ok one → TellsAs m lines one
     as_drive lines inputs one are same driven =
@@ -185,12 +213,17 @@ module _ (files : Files) (names : CheckNames) (m : CheckMeaning) (mean : FilesMe
       let w = driver_of m (calls_in net lines) in
       let w_net : w.net ≡ net = ap (λ (v : DriverView). v.net) (sym (driver_is m lines)) ∙ behind_net lines in
       let By : DriverView → Network → SwitchId → Type 0 = λ v n s. SendsBy v s (call_in n line) (texts_to s (told_line v line).said) in
+      let Silent : DriverView → Network → SwitchId → Type 0 = λ v n s. SilentBy v s (call_in n line) (texts_to s (told_line v line).said) in
       let after : after_line (silent_view w) line ≡ silent_view (given w (call_in w.net line)) = line_behind w line in
       record {
         sends = λ s less.
             subst (λ (v : DriverView). By v net s) (sym (driver_is m lines))
             (subst (λ (n : Network). By (silent_view w) n s) w_net
             (sends_read w s (line_in w.net line) (λ c. each_call net m.plan.rounds inverses (calls_in net lines) c s (calls_within net lines) less)));
+        silent = λ s less.
+            subst (λ (v : DriverView). Silent v net s) (sym (driver_is m lines))
+            (subst (λ (n : Network). Silent (silent_view w) n s) w_net
+            (λ dead other. silent_read w s (line_in w.net line) (λ c differs. none_to_dead net m.plan.rounds inverses (calls_in net lines) c s (calls_within net lines) less dead differs) other));
         xids =
             subst (λ (v : DriverView). GoesOnBy v (driver_behind m (lines ++ line ∷ [])) (call_in net line)) (sym (driver_is m lines))
             (subst (λ (v : DriverView). GoesOnBy (silent_view w) v (call_in net line))

@@ -1,3 +1,4 @@
 pub mod Told
 pub mod Running
+pub mod Answered
 pub mod Promise

@@ -1,5 +1,5 @@
 -- What the blocks that answer lines say of the update.
-use Rattle.std.specs.Prelude.{◌≡◌, ◌<◌, ℕ, List, [], ◌∷◌, ◌++◌, map, Option, None, Some, Ok}
+use Rattle.std.specs.Prelude.{◌≡◌, ◌≢◌, ◌<◌, true, ℕ, List, [], ◌∷◌, ◌++◌, map, Option, None, Some, Ok}
 use Rattle.std.specs.List.{AllByRecursion, concat}
 use Rattle.net_base.specs.declared.ids.SwitchId.{SwitchId}
 use Rattle.topology.specs.Networks.{switch_count}
@@ -9,7 +9,8 @@ use Rattle.law_two_way_runs.specs.States.{TwoWayEvent, TwoWayState}
 use Rattle.law_two_way_runs.specs.Runs.{IsTwoWayRun, state_after_two_way}
 use Rattle.update_driver.specs.Drivers.{DriverState as OnwardState, channel_at}
 use Rattle.two_way_driver.specs.Calls.{DriverView}
-use Rattle.two_way_driver.specs.Laws.{Call, events_in, phase_of, BeginsAnswered}
+use Rattle.two_way_driver.specs.Drivers.{peer_at}
+use Rattle.two_way_driver.specs.Laws.{Call, Reopen, events_in, phase_of, BeginsAnswered}
 use Rattle.two_way_driver.specs.Words.{after_call_anew}
 use Rattle.two_way_driver.specs.Sending.{texts_to, Sends, GoesOn}
 use Rattle.two_way_driver.specs.declared.Stage.{Stage}
@@ -49,6 +50,10 @@ abbrev pub SendsBy : DriverView → SwitchId → Option Call → List (List ℕ)
 SendsBy v s None texts = texts ≡ []
 SendsBy v s (Some c) texts = Sends v (after_call_anew v c) s c texts
 
+-- a dead switch is sent nothing, but by the line that opens its session again
+abbrev pub SilentBy : DriverView → SwitchId → Option Call → List (List ℕ) → Type 0
+SilentBy v s asked texts = (peer_at v.state s).is_dead ≡ true → asked ≢ Some (Reopen s) → texts ≡ []
+
 -- how the xids go on behind a line
 abbrev pub GoesOnBy : DriverView → DriverView → Option Call → Type 0
 GoesOnBy before after None = after ≡ before
@@ -58,6 +63,8 @@ GoesOnBy before after (Some c) = GoesOn before after c
 pub record SendsAsAsked (m : CheckMeaning) (lines : List (List ℕ)) (line : List ℕ) : Type 0 where
   pub sends : (s : SwitchId) → s.0 < switch_count m.update.net
       → SendsBy (driver_behind m lines) s (call_in m.update.net line) (texts_to s (told_line (driver_behind m lines) line).said)
+  pub silent : (s : SwitchId) → s.0 < switch_count m.update.net
+      → SilentBy (driver_behind m lines) s (call_in m.update.net line) (texts_to s (told_line (driver_behind m lines) line).said)
   pub xids : GoesOnBy (driver_behind m lines) (driver_behind m (lines ++ line ∷ [])) (call_in m.update.net line)
 
 -- ---- other lines

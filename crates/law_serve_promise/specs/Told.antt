@@ -10,7 +10,7 @@ use Rattle.serve_lines.specs.Lines.{line_in}
 use Rattle.serve_lines.specs.Blocks.{block_text}
 use Rattle.serve_lines.specs.declared.fault.LineFault.{LineFault}
 use Rattle.serve_lines.specs.declared.line.ServeLine.{ServeLine}
-use Rattle.serve_lines.specs.declared.line.ServeLine.TheVariants.{Comment, Start, Back, Reopen, Feed}
+use Rattle.serve_lines.specs.declared.line.ServeLine.TheVariants.{Comment, Start, Back, Reopen, Feed, Dead}
 use Rattle.serve_lines.specs.declared.blocks.LineOutcome.{LineOutcome}
 use Rattle.serve_command.specs.Served.{call_outcome, after_read, outcome_read, after_line, after_lines}
 use Rattle.check_base.specs.Checks.{CheckMeaning}
@@ -69,6 +69,7 @@ call_asked Start = Some call.Start
 call_asked Back = Some call.Back
 call_asked (Reopen s) = Some (call.Reopen s)
 call_asked (Feed s bytes) = Some (call.Feed s bytes)
+call_asked (Dead s) = Some (call.Dead s)
 
 -- a bad line asks for none
 abbrev pub call_read : Result ServeLine LineFault → Option Call

@@ -1,3 +1,4 @@
+mod TakeLaws
 mod ServeLaws
 mod AnswerLaws
 mod EndLaws

@@ -1,13 +1,13 @@
 -- Lines that are served one after the other, and where that stops.
-use Rattle.std.proofs.Common.{◌≡◌, ◌≢◌, ℕ, ◌+◌, ◌-◌, ◌<◌, ◌≤◌, ◌^◌, List, [], ◌∷◌, ◌++◌, length, take, min, None, Some, refl, sym, ap, ◌∙◌, subst, append_assoc, append-nil, length-append, take_all, inl, inr, lit<, arith}
-use Rattle.std.specs.Prelude.{Option, ◌⊎◌}
+use Rattle.std.proofs.Common.{◌≡◌, ◌≢◌, ℕ, ◌+◌, ◌-◌, ◌<◌, ◌≤◌, ◌^◌, List, [], ◌∷◌, ◌++◌, length, take, min, true, false, None, Some, refl, sym, ap, ◌∙◌, subst, append_assoc, append-nil, length-append, take_all, inl, inr, lit<, arith}
+use Rattle.std.specs.Prelude.{Option, Bool, ◌⊎◌}
 use Rattle.std.specs.Io.KnownBytes.{Appends, Keeps, Consumes, IsAtEnd}
-use Rattle.std.proofs.KnownBytes.{Appends-trans, Appends-kept, Appends-nil, Consumes-nil, Consumes-trans}
+use Rattle.std.proofs.KnownBytes.{Appends-trans, Appends-kept, Appends-nil, Consumes-trans}
 use Rattle.std.proofs.Math.Seq.{take-append_seam, take-append-add}
 use Rattle.std.proofs.lemmas.List.{take-append-le, take_min, length-take}
 use Rattle.std.proofs.lemmas.Bool.{cases_lt}
 use Rattle.file_access.specs.Causes.{raised_count}
-use Rattle.file_access.specs.Outside.{Files, Opens, AppendsFront}
+use Rattle.file_access.specs.Outside.{Files, IsMissing, Opens, AppendsFront}
 use Rattle.command_base.specs.declared.status.Status.{Status}
 use Rattle.command_base.specs.declared.status.Status.TheVariants as status
 use Rattle.topology.specs.Networks.{Network}
@@ -16,9 +16,11 @@ use Rattle.serve_lines.specs.Lines.{kept_bytes, line_in, ended_lines, open_line,
 use Rattle.serve_lines.proofs.KeptLaws.{line_kept, kept_next}
 use Rattle.serve_lines.proofs.LineLaws.{end_ends, end_begins, byte_ends, byte_opens}
 use Rattle.serve_command.specs.Served.{after_line, line_block, after_lines, blocks, after_read, outcome_read}
-use Rattle.serve_command.specs.Stops.{StopsLine, StopsAt, HasServed, IsFrontOf, AreAll, EndsAfter, EndsInput, EndsServing, status_of, input_name, input_of}
+use Rattle.serve_command.specs.Takes.{InputTake, Gave, Faulted, Begins, AddsTake}
+use Rattle.serve_command.specs.Stops.{StopsLine, StopsAt, HasServed, IsFrontOf, AreAll, IsInputTaken, lines_ended, EndsAfter, EndsInput, EndsStandardInput, EndsServing, status_of, input_name, input_of}
 use Rattle.serve_command.specs.declared.fault.ServeFault.{ServeFault}
 use Rattle.serve_command.specs.declared.fault.ServeFault.TheVariants as fault
+use Rattle.serve_command.proofs.TakeLaws.{MayGoOn, told_first, told_more, told_fault, told_end, told_last, told_behind}
 
 -- ---- lines in a row
 
@@ -192,41 +194,139 @@ front_of None left taken p = tt
 front_of (Some all) None taken p = absurd p
 front_of (Some all) (Some rest) taken p = (rest, p)
 
--- some bytes of the input were taken, and the lines that they end were served
-pub record Taking (v : DriverView) (input left old new : Option (List ℕ)) (counted : ℕ) (d : DriverView) (line : List ℕ) : Type 0 where
+all_of : (input left : Option (List ℕ)) (taken : List ℕ) → Consumes input left taken → IsAtEnd left → AreAll input taken
+all_of None left taken p at_end = tt
+all_of (Some all) None taken p at_end = absurd p
+all_of (Some all) (Some rest) taken p at_end = p ∙ ap (λ (t : List ℕ). taken ++ t) at_end ∙ append-nil taken
+
+-- a line of a piece stopped it
+ends_stopped : (v : DriverView) (input old new : Option (List ℕ)) (taken : List ℕ) (s : ServeFault) → IsFrontOf input taken → StopsAt (blocks v) old new (ended_lines taken) s → EndsAfter (blocks v) input old new taken false (status_of s)
+ends_stopped v input old new taken fault.WriteFault front p = (front, p)
+ends_stopped v input old new taken fault.Memory front p = (front, p)
+
+-- some bytes of the input were taken, in turn with what was put, and the lines that they end were served
+pub record Taking (v : DriverView) (input left old new : Option (List ℕ)) (counted : ℕ) (takes : Option (List InputTake)) (d : DriverView) (line : List ℕ) : Type 0 where
   pub taken : List ℕ
   pub consumed : Consumes input left taken
   pub count : counted ≡ raised_count 0 (length taken)
+  pub in_turn : MayGoOn (blocks v) old takes taken
   pub served : HasServed v old new taken d line
 
 counted_more : (n m top : ℕ) → min (min (0 + n) top + m) top ≡ min (0 + (n + m)) top
 counted_more n m top = omega arith
 
--- memory is wanting behind lines
-pub ends_wanting : (v : DriverView) (input left old new : Option (List ℕ)) (counted : ℕ) (d : DriverView) (line : List ℕ) → Taking v input left old new counted d line → EndsInput (blocks v) input old new counted status.Memory
-ends_wanting v input left old new counted d line t = record {
-  taken = t.taken;
-  count = t.count;
-  ends = (front_of input left t.taken t.consumed, (length (ended_lines t.taken), subst (λ (l : List (List ℕ)). Appends old new (blocks v l)) (sym (take-append_seam (ended_lines t.taken) (last_line (open_line t.taken)))) t.served.written));
-}
+-- ---- a take
 
--- a line of a piece stopped it
-pub ends_stopped : (v : DriverView) (input old new : Option (List ℕ)) (taken : List ℕ) (s : ServeFault) → IsFrontOf input taken → StopsAt (blocks v) old new (ended_lines taken) s → EndsAfter (blocks v) input old new taken (status_of s)
-ends_stopped v input old new taken fault.WriteFault front p = (front, stops_more v old new (ended_lines taken) (last_line (open_line taken)) fault.WriteFault p)
-ends_stopped v input old new taken fault.Memory front p = (front, stops_more v old new (ended_lines taken) (last_line (open_line taken)) fault.Memory p)
+module _ (v : DriverView) (input left old now : Option (List ℕ)) (counted : ℕ) (takes : Option (List InputTake)) (d : DriverView) (line : List ℕ) (t : Taking v input left old now counted takes d line) where
+  count_more : (next : ℕ) (piece : List ℕ) → next ≡ raised_count counted (length piece) → next ≡ raised_count 0 (length (t.taken ++ piece))
+  count_more next piece count =
+      count ∙ ap (λ (k : ℕ). raised_count k (length piece)) t.count ∙ counted_more (length t.taken) (length piece) (2 ^ 64 - 1) ∙ sym (ap (raised_count 0) (length-append t.taken piece))
+
+  -- a piece is taken, and its lines are served
+  pub takes_more : (behind new : Option (List ℕ)) (next : ℕ) (after : Option (List InputTake)) (e : DriverView) (rest piece : List ℕ)
+      → 0 < length piece → Consumes left behind piece → next ≡ raised_count counted (length piece) → AddsTake takes after (Gave now piece)
+      → HasServed v old new (t.taken ++ piece) e rest → Taking v input behind old new next after e rest
+  takes_more behind new next after e rest piece some consumes count adds served = record {
+    taken = t.taken ++ piece;
+    consumed = Consumes-trans input left behind t.taken piece t.consumed consumes;
+    count = count_more next piece count;
+    in_turn = told_more (blocks v) old now t.taken t.served.written takes after piece some t.in_turn adds;
+    served = served;
+  }
+
+  -- a line of it stopped it
+  pub ends_piece : (behind new : Option (List ℕ)) (next : ℕ) (after : Option (List InputTake)) (piece : List ℕ) (s : ServeFault)
+      → 0 < length piece → Consumes left behind piece → next ≡ raised_count counted (length piece) → AddsTake takes after (Gave now piece)
+      → StopsAt (blocks v) old new (ended_lines (t.taken ++ piece)) s → EndsInput (blocks v) input old new next after (status_of s)
+  ends_piece behind new next after piece s some consumes count adds stops = record {
+    taken = t.taken ++ piece;
+    ended = false;
+    count = count_more next piece count;
+    in_turn = told_last (blocks v) old after (t.taken ++ piece) (told_more (blocks v) old now t.taken t.served.written takes after piece some t.in_turn adds);
+    ends = ends_stopped v input old new (t.taken ++ piece) s (front_of input behind (t.taken ++ piece) (Consumes-trans input left behind t.taken piece t.consumed consumes)) stops;
+  }
+
+  -- it fails
+  pub ends_unread : (next : ℕ) (after : Option (List InputTake)) → next ≡ counted → AddsTake takes after (Faulted now) → EndsInput (blocks v) input old now next after status.ReadFault
+  ends_unread next after same adds = record {
+    taken = t.taken;
+    ended = false;
+    count = same ∙ t.count;
+    in_turn = told_fault (blocks v) old now t.taken t.served.written takes after t.in_turn adds;
+    ends = (refl, front_of input left t.taken t.consumed, t.served.written);
+  }
+
+  -- it finds the end
+  pub ends_ended : (new : Option (List ℕ)) (next : ℕ) (after : Option (List InputTake)) (result : Status) → IsAtEnd left → next ≡ raised_count counted 0 → AddsTake takes after (Gave now [])
+      → ((bytes : List ℕ) → AreAll input bytes → HasServed v old now bytes d line → EndsAfter (blocks v) input old new bytes true result) → EndsInput (blocks v) input old new next after result
+  ends_ended new next after result at_end count adds ends = record {
+    taken = t.taken;
+    ended = true;
+    count = count_more next [] count ∙ ap (λ (b : List ℕ). raised_count 0 (length b)) (append-nil t.taken);
+    in_turn = told_end (blocks v) old now t.taken t.served.written takes after t.in_turn adds;
+    ends = ends t.taken (all_of input left t.taken t.consumed at_end) t.served;
+  }
+
+  -- none is made any more, as for want of memory
+  pub ends_wanting : EndsInput (blocks v) input old now counted takes status.Memory
+  ends_wanting = record {
+    taken = t.taken;
+    ended = false;
+    count = t.count;
+    in_turn = told_last (blocks v) old takes t.taken t.in_turn;
+    ends = (front_of input left t.taken t.consumed, (length (ended_lines t.taken), subst (λ (l : List (List ℕ)). Appends old now (blocks v l)) (sym (take_all (length (ended_lines t.taken)) (ended_lines t.taken) (omega arith))) t.served.written));
+  }
+
+-- ---- the standard input
 
 -- the input is what the source holds under the name, where it tells
-ends_as : (v : DriverView) (input left old new : Option (List ℕ)) (taken : List ℕ) (result : Status) → ((taken : List ℕ) → IsFrontOf left taken → IsFrontOf input taken) → ((taken : List ℕ) → AreAll left taken → AreAll input taken)
-    → EndsAfter (blocks v) left old new taken result → EndsAfter (blocks v) input old new taken result
-ends_as v input left old new taken status.Done front all p = (all taken p.0, p.1)
-ends_as v input left old new taken status.ReadFault front all p = (front taken p.0, p.1)
-ends_as v input left old new taken status.WriteFault front all p = (front taken p.0, p.1)
-ends_as v input left old new taken status.Memory front all p = (front taken p.0, p.1)
-ends_as v input left old new taken _ front all p = absurd p
+held_front : (held : Option Files) (left : Option (List ℕ)) (taken : List ℕ) → Opens held input_name left → IsFrontOf left taken → IsFrontOf (input_of held) taken
+held_front None left taken opens front = tt
+held_front (Some files) left taken opens front = subst (λ (l : Option (List ℕ)). IsFrontOf l taken) opens front
+
+held_all : (held : Option Files) (left : Option (List ℕ)) (taken : List ℕ) → Opens held input_name left → AreAll left taken → AreAll (input_of held) taken
+held_all None left taken opens all = tt
+held_all (Some files) left taken opens all = subst (λ (l : Option (List ℕ)). AreAll l taken) opens all
+
+held_taken : (held : Option Files) (left : Option (List ℕ)) (taken : List ℕ) (ended : Bool) → Opens held input_name left → IsInputTaken ended left taken → IsInputTaken ended (input_of held) taken
+held_taken held left taken false opens is = held_front held left taken opens is
+held_taken held left taken true opens is = held_all held left taken opens is
+
+held_after : (v : DriverView) (held : Option Files) (left old new : Option (List ℕ)) (taken : List ℕ) (ended : Bool) (result : Status)
+    → Opens held input_name left → EndsAfter (blocks v) left old new taken ended result → EndsAfter (blocks v) (input_of held) old new taken ended result
+held_after v held left old new taken ended status.Done opens p = (p.0, held_all held left taken opens p.1, p.2)
+held_after v held left old new taken ended status.ReadFault opens p = (p.0, held_front held left taken opens p.1, p.2)
+held_after v held left old new taken ended status.WriteFault opens p = (held_taken held left taken ended opens p.0, p.1)
+held_after v held left old new taken ended status.Memory opens p = (held_taken held left taken ended opens p.0, p.1)
+held_after v held left old new taken ended _ opens p = absurd p
+
+not_both : false ≡ true → ⊥
+not_both e = cc
+
+-- it is there
+pub ends_there : (v : DriverView) (held : Option Files) (left old new : Option (List ℕ)) (counted : ℕ) (takes : Option (List InputTake)) (result : Status)
+    → (IsMissing held input_name → false ≡ true) → Opens held input_name left → EndsInput (blocks v) left old new counted takes result → EndsStandardInput (blocks v) held old new counted takes result
+ends_there v held left old new counted takes result there opens e = record {
+  input = record { taken = e.taken; ended = e.ended; count = e.count; in_turn = e.in_turn; ends = held_after v held left old new e.taken e.ended result opens e.ends };
+  missing = λ none. absurd (not_both (there none));
+}
 
 none_front : (input : Option (List ℕ)) → IsFrontOf input []
 none_front None = tt
 none_front (Some all) = (all, refl)
+
+-- it can't be begun
+pub ends_unbegun : (v : DriverView) (held : Option Files) (old : Option (List ℕ)) (counted : ℕ) (takes : Option (List InputTake)) → counted ≡ 0 → Begins takes → EndsStandardInput (blocks v) held old old counted takes status.ReadFault
+ends_unbegun v held old counted takes none begins = record {
+  input = record {
+    taken = [];
+    ended = false;
+    count = none;
+    in_turn = told_last (blocks v) old takes [] (told_first (blocks v) old takes begins);
+    ends = (refl, none_front (input_of held), Appends-nil old);
+  };
+  missing = λ is. (refl, Appends-nil old);
+}
 
 -- ---- the block of line 0
 
@@ -238,21 +338,21 @@ module _ (first : List ℕ) (v : DriverView) (old mid new : Option (List ℕ)) (
   greeted_stops lines fault.WriteFault p = front_behind old mid new first (blocks v lines) written p
   greeted_stops lines fault.Memory (n, p) = (n, Appends-trans old mid new first (blocks v (take n lines)) written p)
 
-  greeted_after : (input : Option (List ℕ)) (taken : List ℕ) (result : Status) → EndsAfter (blocks v) input mid new taken result → EndsAfter greeted input old new taken result
-  greeted_after input taken status.Done p = (p.0, Appends-trans old mid new first (blocks v (lines_in taken)) written p.1)
-  greeted_after input taken status.ReadFault p = (p.0, Appends-trans old mid new first (blocks v (ended_lines taken)) written p.1)
-  greeted_after input taken status.WriteFault p = (p.0, greeted_stops (lines_in taken) fault.WriteFault p.1)
-  greeted_after input taken status.Memory p = (p.0, greeted_stops (lines_in taken) fault.Memory p.1)
-  greeted_after input taken _ p = absurd p
+  greeted_after : (input : Option (List ℕ)) (taken : List ℕ) (ended : Bool) (result : Status) → EndsAfter (blocks v) input mid new taken ended result → EndsAfter greeted input old new taken ended result
+  greeted_after input taken ended status.Done p = (p.0, p.1, Appends-trans old mid new first (blocks v (lines_in taken)) written p.2)
+  greeted_after input taken ended status.ReadFault p = (p.0, p.1, Appends-trans old mid new first (blocks v (ended_lines taken)) written p.2)
+  greeted_after input taken ended status.WriteFault p = (p.0, greeted_stops (lines_ended ended taken) fault.WriteFault p.1)
+  greeted_after input taken ended status.Memory p = (p.0, greeted_stops (lines_ended ended taken) fault.Memory p.1)
+  greeted_after input taken ended _ p = absurd p
 
-  pub ends_greeted : (input : Option (List ℕ)) (counted : ℕ) (result : Status) → EndsInput (blocks v) input mid new counted result → EndsServing (λ lines. first ++ blocks v lines) input old new counted result
-  ends_greeted input counted result e = inr (record { taken = e.taken; count = e.count; ends = greeted_after input e.taken result e.ends })
-
--- a line of a piece that was taken stopped it
-pub ends_piece : (v : DriverView) (input left behind old now new : Option (List ℕ)) (counted next : ℕ) (d : DriverView) (line piece : List ℕ) (s : ServeFault) (t : Taking v input left old now counted d line)
-    → Consumes left behind piece → next ≡ raised_count counted (length piece) → StopsAt (blocks v) old new (ended_lines (t.taken ++ piece)) s → EndsInput (blocks v) input old new next (status_of s)
-ends_piece v input left behind old now new counted next d line piece s t consumes count stops = record {
-  taken = t.taken ++ piece;
-  count = count ∙ ap (λ (k : ℕ). raised_count k (length piece)) t.count ∙ counted_more (length t.taken) (length piece) (2 ^ 64 - 1) ∙ sym (ap (raised_count 0) (length-append t.taken piece));
-  ends = ends_stopped v input old new (t.taken ++ piece) s (front_of input behind (t.taken ++ piece) (Consumes-trans input left behind t.taken piece t.consumed consumes)) stops;
-}
+  pub ends_greeted : (held : Option Files) (counted : ℕ) (takes : Option (List InputTake)) (result : Status) → EndsStandardInput (blocks v) held mid new counted takes result → EndsServing (λ lines. first ++ blocks v lines) held old new counted takes result
+  ends_greeted held counted takes result e = inr (record {
+    input = record {
+      taken = e.input.taken;
+      ended = e.input.ended;
+      count = e.input.count;
+      in_turn = told_behind first (blocks v) old mid written takes e.input.taken e.input.ended e.input.in_turn;
+      ends = greeted_after (input_of held) e.input.taken e.input.ended result e.input.ends;
+    };
+    missing = λ none. ((e.missing none).0, Appends-trans old mid new first [] written (e.missing none).1);
+  })

@@ -1,3 +1,4 @@
 pub mod Served
+pub mod Takes
 pub mod Stops
 pub mod Serving

@@ -11,7 +11,7 @@ use Rattle.serve_lines.specs.Lines.{line_in}
 use Rattle.serve_lines.specs.Blocks.{block_text}
 use Rattle.serve_lines.specs.declared.fault.LineFault.{LineFault}
 use Rattle.serve_lines.specs.declared.line.ServeLine.{ServeLine}
-use Rattle.serve_lines.specs.declared.line.ServeLine.TheVariants.{Comment, Start, Back, Reopen, Feed}
+use Rattle.serve_lines.specs.declared.line.ServeLine.TheVariants.{Comment, Start, Back, Reopen, Feed, Dead}
 use Rattle.serve_lines.specs.declared.blocks.LineOutcome.{LineOutcome}
 use Rattle.serve_lines.specs.declared.blocks.LineOutcome.TheVariants as outcome
 
@@ -22,6 +22,7 @@ after_asked v Start = after_call v call.Start
 after_asked v Back = after_call v call.Back
 after_asked v (Reopen s) = after_call v (call.Reopen s)
 after_asked v (Feed s bytes) = after_call v (call.Feed s bytes)
+after_asked v (Dead s) = after_call v (call.Dead s)
 
 -- how a call ended that has this fault; want of memory is none
 abbrev pub refusal_of : CallFault → LineOutcome
@@ -43,6 +44,7 @@ outcome_asked v Start = call_outcome (start_fault v) (after_asked v Start)
 outcome_asked v Back = call_outcome (back_fault v) (after_asked v Back)
 outcome_asked v (Reopen s) = call_outcome None (after_asked v (Reopen s))
 outcome_asked v (Feed s bytes) = call_outcome None (after_asked v (Feed s bytes))
+outcome_asked v (Dead s) = call_outcome None (after_asked v (Dead s))
 
 -- a bad line leaves the driver as it is
 abbrev pub after_read : DriverView → Result ServeLine LineFault → DriverView

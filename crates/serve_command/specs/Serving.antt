@@ -17,7 +17,8 @@ use Rattle.check_base.specs.declared.check_files.CheckFiles.{CheckFiles}
 use Rattle.check_base.specs.Checks.{CheckMeaning, check_count, check_dialogue, check_meaning_of, task_in}
 use Rattle.check_base.specs.Names.{CheckNames}
 use Rattle.serve_command.specs.Served.{served_text}
-use Rattle.serve_command.specs.Stops.{EndsServing, input_of}
+use Rattle.serve_command.specs.Takes.{InputTake}
+use Rattle.serve_command.specs.Stops.{EndsServing}
 
 -- the meaning of an update and a plan that were read
 abbrev pub meaning_of : CheckFiles → CheckMeaning
@@ -39,18 +40,18 @@ EndsRefused m old new status.WriteFault = (answer : Answer) × SaysRefusal m ans
 EndsRefused m old new other = (answer : Answer) × SaysRefusal m answer × (answer.status ≡ other) × Appends old new answer.text
 
 -- the plan is certified, over few enough classes, and its driver is served
-pub record Serves (m : CheckMeaning) (input old new : Option (List ℕ)) (taken : ℕ) (result : Status) : Type 0 where
+pub record Serves (m : CheckMeaning) (held : Option Files) (old new : Option (List ℕ)) (taken : ℕ) (takes : Option (List InputTake)) (result : Status) : Type 0 where
   pub few : check_count m ≤ most_classes
   pub certified : IsCertified (task_in m) m.plan.evidence
-  pub served : EndsServing (text_on m) input old new taken result
+  pub served : EndsServing (text_on m) held old new taken takes result
 
 -- over the source the files mean an update and a plan that is served
-pub record ServesFiles (held : Option Files) (names : CheckNames) (old new : Option (List ℕ)) (taken : ℕ) (result : Status) : Type 0 where
+pub record ServesFiles (held : Option Files) (names : CheckNames) (old new : Option (List ℕ)) (taken : ℕ) (takes : Option (List InputTake)) (result : Status) : Type 0 where
   pub meaning : CheckMeaning
   pub gives : Gives held None (check_dialogue names) meaning (Some (file_read kind.Plan names.plan))
-  pub serves : Serves meaning (input_of held) old new taken result
+  pub serves : Serves meaning held old new taken takes result
 
 -- How `serve` ends: a file isn't read or the plan is refused, as `check` says, or the driver of the plan is served.
-abbrev pub IsServeEnd : Option Files → CheckNames → Option (List ℕ) → Option (List ℕ) → List ℕ → ℕ → Status → Type 0
-IsServeEnd held names old new selected taken result =
-    EndsAs SaysRefusal held (check_dialogue names) old new selected taken result ⊎ ServesFiles held names old new taken result
+abbrev pub IsServeEnd : Option Files → CheckNames → Option (List ℕ) → Option (List ℕ) → List ℕ → ℕ → Option (List InputTake) → Status → Type 0
+IsServeEnd held names old new selected taken takes result =
+    EndsAs SaysRefusal held (check_dialogue names) old new selected taken result ⊎ ServesFiles held names old new taken takes result

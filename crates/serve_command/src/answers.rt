@@ -63,6 +63,7 @@ fn carry_out(driver: &mut Driver<'_>, line: &ServeLine) -> Result<LineOutcome, M
         ServeLine::Back => return back(driver),
         ServeLine::Reopen(switch) => driver.reopen(*switch)?,
         ServeLine::Feed(switch, piece) => driver.feed(*switch, piece.bytes())?,
+        ServeLine::Dead(switch) => driver.dead(*switch)?,
     }
     Ok(LineOutcome::Went(driver.stage()))
 }

@@ -15,14 +15,15 @@ ghost use Rattle.check_base.specs.Checks.{CheckMeaning, check_dialogue, task_in}
 ghost use Rattle.check_base.specs.Names.{names_seen};
 ghost use Rattle.serve_command.specs.Served.{served_text};
 ghost use Rattle.serve_command.specs.Serving.{meaning_of, text_on, SaysRefusal, EndsRefused, Serves, IsServeEnd};
-ghost use Rattle.serve_command.specs.Stops.{EndsServing, input_of, input_name};
+ghost use Rattle.serve_command.specs.Stops.{EndsServing, input_name};
 
+use crate::beside::SourceBeside;
 use crate::greeting::serve_desk;
 use crate::lines::Desk;
 use crate::served_update::ServedUpdate;
 use check_base::{CheckFiles, CheckNames, read_check_files};
 use command_base::{Exit, Reply, Status};
-use file_access::{Sink, Source, WriteFault, pour};
+use file_access::{Sink, WriteFault, pour};
 use net_base::Memory;
 use plan_verdict::refusal_reply;
 use round_inverses::inverse_rounds;
@@ -77,7 +78,7 @@ fn write_exit<K: Sink>(sink: &mut K, exit: Exit) -> Status
 }
 
 /// Serves the driver of rounds that can be taken back.
-fn serve_both_ways<S: Source, K: Sink>(
+fn serve_both_ways<S: SourceBeside<K>, K: Sink>(
     alloc: Global,
     source: &mut S,
     sink: &mut K,
@@ -87,8 +88,8 @@ fn serve_both_ways<S: Source, K: Sink>(
     requires { AreTurnable files.now.update.net files.now.plan.rounds inverses.now }
     ensures ends { EndsServing
         (served_text files.now.update.net files.now.plan.rounds inverses.now)
-        (input_of (S.held source.old)) (K.written sink.old) (K.written sink.new)
-        (S.taken source.new) result }
+        (S.held source.old) (K.written sink.old) (K.written sink.new) (S.taken source.new)
+        (S.takes source.new) result }
     ensures held { S.held source.new ≡ S.held source.old }
     ensures read_fault { result ≡ Status.ReadFault
         → Rose (S.faults source.old) (S.faults source.new)
@@ -118,7 +119,7 @@ fn serve_both_ways<S: Source, K: Sink>(
 }
 
 /// Serves the driver of a certified plan.
-fn serve_certified<S: Source, K: Sink>(
+fn serve_certified<S: SourceBeside<K>, K: Sink>(
     alloc: Global,
     source: &mut S,
     sink: &mut K,
@@ -128,8 +129,9 @@ fn serve_certified<S: Source, K: Sink>(
     requires new { IsUserConfig files.now.update.net (rules_of_all files.now.update.new) }
     requires valid { IsValidPlan files.now.update.net files.now.plan }
     requires certified { IsCertified (task_in (meaning_of files.now)) files.now.plan.evidence }
-    ensures ends { EndsServing (text_on (meaning_of files.now)) (input_of (S.held source.old))
-        (K.written sink.old) (K.written sink.new) (S.taken source.new) result }
+    ensures ends { EndsServing (text_on (meaning_of files.now)) (S.held source.old)
+        (K.written sink.old) (K.written sink.new) (S.taken source.new) (S.takes source.new)
+        result }
     ensures held { S.held source.new ≡ S.held source.old }
     ensures read_fault { result ≡ Status.ReadFault
         → Rose (S.faults source.old) (S.faults source.new)
@@ -162,7 +164,7 @@ fn serve_certified<S: Source, K: Sink>(
 }
 
 /// Serves the driver of a plan, where it is certified, or says why it isn't.
-fn serve_files<S: Source, K: Sink>(
+fn serve_files<S: SourceBeside<K>, K: Sink>(
     alloc: Global,
     source: &mut S,
     sink: &mut K,
@@ -173,8 +175,8 @@ fn serve_files<S: Source, K: Sink>(
     requires valid { IsValidPlan files.now.update.net files.now.plan }
     ensures ends { ((source.new ≡ source.old)
         × EndsRefused (meaning_of files.now) (K.written sink.old) (K.written sink.new) result)
-        ⊎ Serves (meaning_of files.now) (input_of (S.held source.old)) (K.written sink.old)
-        (K.written sink.new) (S.taken source.new) result }
+        ⊎ Serves (meaning_of files.now) (S.held source.old) (K.written sink.old)
+        (K.written sink.new) (S.taken source.new) (S.takes source.new) result }
     ensures usage { result ≢ Status.Usage }
     ensures held { S.held source.new ≡ S.held source.old }
     ensures read_fault { result ≡ Status.ReadFault
@@ -203,14 +205,15 @@ fn serve_files<S: Source, K: Sink>(
 /// It ends at the end of the input. Where memory is wanting nothing is written for the line, and it ends; so it does where
 /// reading or writing fails. The memory is that of the files, of one line with its block, and of the unread bytes of each
 /// session, however many lines come.
-pub fn serve<S: Source, K: Sink>(
+pub fn serve<S: SourceBeside<K>, K: Sink>(
     alloc: Global,
     source: &mut S,
     sink: &mut K,
     names: &CheckNames<'_>,
 ) -> Status
     ensures ends { IsServeEnd (S.held source.old) (names_seen names.now) (K.written sink.old)
-        (K.written sink.new) (S.selected source.new) (S.taken source.new) result }
+        (K.written sink.new) (S.selected source.new) (S.taken source.new) (S.takes source.new)
+        result }
     ensures usage { result ≢ Status.Usage }
     ensures held { S.held source.new ≡ S.held source.old }
     ensures read_fault { result ≡ Status.ReadFault

@@ -5,14 +5,15 @@ ghost use Rattle.file_access.specs.Causes.{Rose};
 ghost use Rattle.file_access.specs.Outside.{IsMissing};
 ghost use Rattle.two_way_driver.specs.Calls.{silent_view};
 ghost use Rattle.serve_command.specs.Served.{blocks, first_block};
-ghost use Rattle.serve_command.specs.Stops.{Suits, StopsLine, EndsInput, EndsServing, input_of, input_name};
+ghost use Rattle.serve_command.specs.Stops.{Suits, StopsLine, EndsStandardInput, EndsServing, input_name};
 
+use crate::beside::SourceBeside;
 use crate::fault::ServeFault;
 use crate::input::{serve_input, status_of};
 use crate::lines::{Desk, write_block};
 use crate::served_update::ServedUpdate;
 use command_base::Status;
-use file_access::{Failed, Sink, Source};
+use file_access::{Failed, Sink};
 use net_base::Memory;
 use serve_lines::{LineOutcome, block_text};
 use two_way_driver::Driver;
@@ -63,7 +64,7 @@ fn greet<K: Sink>(
 }
 
 /// Selects the standard input, and serves its lines.
-fn serve_selected<S: Source, K: Sink>(
+fn serve_selected<S: SourceBeside<K>, K: Sink>(
     update: &ServedUpdate<'_>,
     desk: &mut Desk<'_>,
     source: &mut S,
@@ -71,8 +72,9 @@ fn serve_selected<S: Source, K: Sink>(
 ) -> Status
     requires suits { Suits update.now desk.old.driver }
     requires fresh { desk.old.line ≡ [] }
-    ensures ends { EndsInput (blocks desk.old.driver) (input_of (S.held source.old))
-        (K.written sink.old) (K.written sink.new) (S.taken source.new) result }
+    ensures ends { EndsStandardInput (blocks desk.old.driver) (S.held source.old)
+        (K.written sink.old) (K.written sink.new) (S.taken source.new) (S.takes source.new)
+        result }
     ensures held { S.held source.new ≡ S.held source.old }
     ensures read_fault { result ≡ Status.ReadFault
         → Rose (S.faults source.old) (S.faults source.new)
@@ -82,14 +84,14 @@ fn serve_selected<S: Source, K: Sink>(
     ensures later_source { S.faults source.old ≤ S.faults source.new }
     ensures later_sink { K.faults sink.old ≤ K.faults sink.new }
 {
-    match source.select(INPUT) {
+    match source.begin(INPUT) {
         Ok(()) => serve_input(update, desk, source, sink),
         Err(Failed) => Status::ReadFault,
     }
 }
 
 /// Serves a driver that was just made: writes the block of line 0, and then that of each line of the standard input.
-pub fn serve_desk<S: Source, K: Sink>(
+pub fn serve_desk<S: SourceBeside<K>, K: Sink>(
     update: &ServedUpdate<'_>,
     desk: &mut Desk<'_>,
     source: &mut S,
@@ -99,8 +101,8 @@ pub fn serve_desk<S: Source, K: Sink>(
     requires fresh { desk.old.line ≡ [] }
     ensures ends { EndsServing
         (λ lines. first_block desk.old.driver ++ blocks (silent_view desk.old.driver) lines)
-        (input_of (S.held source.old)) (K.written sink.old) (K.written sink.new)
-        (S.taken source.new) result }
+        (S.held source.old) (K.written sink.old) (K.written sink.new) (S.taken source.new)
+        (S.takes source.new) result }
     ensures held { S.held source.new ≡ S.held source.old }
     ensures read_fault { result ≡ Status.ReadFault
         → Rose (S.faults source.old) (S.faults source.new)

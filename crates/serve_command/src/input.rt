@@ -1,15 +1,17 @@
 //! The input is taken piece by piece, and its lines are served.
-ghost use Rattle.std.specs.Prelude.{◌≡◌, ◌≢◌, ◌≤◌, [], ℕ, List, Option, IsTrue};
+ghost use Rattle.std.specs.Prelude.{◌≡◌, ◌≢◌, ◌≤◌, [], ℕ, List, Option, IsTrue, true};
 ghost use Rattle.file_access.specs.Causes.{Rose};
 ghost use Rattle.two_way_driver.specs.Calls.{DriverView};
 ghost use Rattle.serve_command.specs.Served.{blocks};
+ghost use Rattle.serve_command.specs.Takes.{Begins};
 ghost use Rattle.serve_command.specs.Stops.{Suits, HasServed, AreAll, EndsAfter, EndsInput, status_of};
 
+use crate::beside::SourceBeside;
 use crate::fault::ServeFault;
 use crate::lines::{Desk, serve_last, serve_piece};
 use crate::served_update::ServedUpdate;
 use command_base::Status;
-use file_access::{Failed, Sink, Source};
+use file_access::{Failed, Sink};
 
 const PIECE: usize = 4096;
 
@@ -29,7 +31,7 @@ fn serve_end<K: Sink>(update: &ServedUpdate<'_>, desk: &mut Desk<'_>, sink: &mut
     ensures ends { (v : DriverView) (input old : Option (List ℕ)) (bytes : List ℕ)
         → AreAll input bytes
         → HasServed v old (K.written sink.old) bytes desk.old.driver desk.old.line
-        → EndsAfter (blocks v) input old (K.written sink.new) bytes result }
+        → EndsAfter (blocks v) input old (K.written sink.new) bytes true result }
     ensures no_read_fault { result ≢ Status.ReadFault }
     ensures write_fault { result ≡ Status.WriteFault
         → Rose (K.faults sink.old) (K.faults sink.new) }
@@ -41,8 +43,9 @@ fn serve_end<K: Sink>(update: &ServedUpdate<'_>, desk: &mut Desk<'_>, sink: &mut
     }
 }
 
-/// Serves the lines of the current file of the source, up to its end. Behind 2^64 - 1 takes it ends as for want of memory.
-pub fn serve_input<S: Source, K: Sink>(
+/// Serves the lines of the current file of the source, up to its end: the blocks of all lines that are ended are put before the next
+/// take. Behind 2^64 - 1 takes it ends as for want of memory.
+pub fn serve_input<S: SourceBeside<K>, K: Sink>(
     update: &ServedUpdate<'_>,
     desk: &mut Desk<'_>,
     source: &mut S,
@@ -52,8 +55,9 @@ pub fn serve_input<S: Source, K: Sink>(
     requires fresh { desk.old.line ≡ [] }
     requires current { IsTrue (S.is_current source.old) }
     requires untaken { S.taken source.old ≡ 0 }
+    requires begun { Begins (S.takes source.old) }
     ensures ends { EndsInput (blocks desk.old.driver) (S.left source.old) (K.written sink.old)
-        (K.written sink.new) (S.taken source.new) result }
+        (K.written sink.new) (S.taken source.new) (S.takes source.new) result }
     ensures selected { S.selected source.new ≡ S.selected source.old }
     ensures held { S.held source.new ≡ S.held source.old }
     ensures read_fault { result ≡ Status.ReadFault
@@ -65,7 +69,7 @@ pub fn serve_input<S: Source, K: Sink>(
 {
     let mut piece = [0u8; PIECE];
     'takes: for _ in 0..u64::MAX {
-        match source.take(&mut piece) {
+        match source.take_beside(sink, &mut piece) {
             Err(Failed) => return Status::ReadFault,
             Ok(0) => return serve_end(update, desk, sink),
             Ok(count) => match serve_piece(update, desk, sink, &piece[..count]) {

@@ -3,6 +3,7 @@
 #![tactic(auto)]
 
 mod answers;
+mod beside;
 mod command;
 mod fault;
 mod greeting;
@@ -10,4 +11,5 @@ mod input;
 mod lines;
 mod served_update;
 
+pub use crate::beside::SourceBeside;
 pub use crate::command::serve;

@@ -11,10 +11,10 @@ use std::alloc::Global;
 use std::process::Abort;
 
 /// HELLO to the single switch.
-const GREETING: &str = "send a 0100000800000000\nok settled 0 of 2\n";
+pub(crate) const GREETING: &str = "send a 0100000800000000\nok settled 0 of 2\n";
 
 /// Lines over its update, with their blocks.
-const EXCHANGES: [Exchange; 4] = [
+pub(crate) const EXCHANGES: [Exchange; 4] = [
     ("# hello", "ok settled 0 of 2\n"),
     ("start", "no open a\n"),
     ("", "ok settled 0 of 2\n"),
@@ -25,11 +25,11 @@ const EXCHANGES: [Exchange; 4] = [
 ];
 
 /// More calls than any of these runs makes.
-const MANY: u64 = 1000;
+pub(crate) const MANY: u64 = 1000;
 
 /// A source with the update of the single switch, its plan and the lines. A take gives at most so many bytes, at least 1; the call
 /// of the given number fails, where calls count from 1.
-fn source_of(
+pub(crate) fn source_of(
     alloc: Global,
     lines: &[u8],
     piece: usize,
@@ -99,7 +99,7 @@ fn read(rt: &impl Abort, alloc: Global, lines: &[u8], failing: u64) -> Answer {
 }
 
 /// The number of the call that selects the lines: those before it fetch the files, and nothing is written where they fail.
-fn call_for_lines(rt: &impl Abort, alloc: Global, lines: &[u8]) -> u64 {
+pub(crate) fn call_for_lines(rt: &impl Abort, alloc: Global, lines: &[u8]) -> u64 {
     for failing in 1..MANY {
         let answer = read(rt, alloc, lines, failing);
         assert!(rt; answer.status == Status::ReadFault);
@@ -111,7 +111,7 @@ fn call_for_lines(rt: &impl Abort, alloc: Global, lines: &[u8]) -> u64 {
 }
 
 /// The block of line 0, and those of the lines that so many bytes end.
-fn ended_blocks(rt: &impl Abort, alloc: Global, lines: &[u8], bytes: usize) -> Vec<u8> {
+pub(crate) fn ended_blocks(rt: &impl Abort, alloc: Global, lines: &[u8], bytes: usize) -> Vec<u8> {
     let mut blocks = blocks_of(rt, alloc, GREETING, &[]);
     let mut exchanges = EXCHANGES.iter();
     for byte in lines.iter().take(bytes) {

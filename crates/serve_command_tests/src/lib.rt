@@ -2,13 +2,19 @@
 #![tactic(auto)]
 
 #[cfg(test)]
+mod dead_tests;
+#[cfg(test)]
 mod driven_tests;
 #[cfg(test)]
 mod exchanges;
 #[cfg(test)]
 mod fault_tests;
 #[cfg(test)]
+mod in_turn_tests;
+#[cfg(test)]
 mod line_tests;
+#[cfg(test)]
+mod noting;
 #[cfg(test)]
 mod served;
 #[cfg(test)]

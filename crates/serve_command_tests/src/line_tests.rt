@@ -17,7 +17,7 @@ fn is_answered(rt: &impl Abort, alloc: Global, lines: &[u8], blocks: &[u8]) {
 
 #[test]
 fn other_lines_are_bad(rt: HostRuntime) {
-    let lines: [&[u8]; 24] = [
+    let lines: [&[u8]; 30] = [
         b"start ",
         b" start",
         b"START",
@@ -30,6 +30,12 @@ fn other_lines_are_bad(rt: HostRuntime) {
         b"reopen s5",
         b"reopen s1 ",
         b"reopen  s1",
+        b"dead",
+        b"dead ",
+        b"dead s5",
+        b"dead s1 ",
+        b"dead  s1",
+        b"dead s1 s2",
         b"feed",
         b"feed s1",
         b"feed s1 ",

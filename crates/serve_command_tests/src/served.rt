@@ -2,7 +2,7 @@
 use check_base::CheckNames;
 use example_files::{Answer, UpdateTexts, served_source, square, update_names};
 use file_access::{MemorySink, MemorySource};
-use serve_command::serve;
+use serve_command::{SourceBeside, serve};
 use std::alloc::Global;
 use std::process::Abort;
 
@@ -11,10 +11,10 @@ pub(crate) const SQUARE_GREETING: &str =
     "send s1 0100000800000000\nsend s2 0100000800000000\nsend s3 0100000800000000\nsend s4 0100000800000000\nok settled 0 of 2\n";
 
 /// How `serve` ends over a source, and what it writes into a sink.
-pub(crate) fn served_into(
+pub(crate) fn served_into<S: SourceBeside<MemorySink>>(
     rt: &impl Abort,
     alloc: Global,
-    source: &mut MemorySource,
+    source: &mut S,
     sink: &mut MemorySink,
 ) -> Answer {
     let names = CheckNames {

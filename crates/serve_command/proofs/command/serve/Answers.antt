@@ -9,7 +9,6 @@ use Rattle.command_base.specs.Replies.{EndsEarly}
 use Rattle.check_base.specs.Checks.{check_dialogue}
 use Rattle.check_base.specs.Names.{names_seen}
 use Rattle.serve_command.specs.Serving.{meaning_of, Serves}
-use Rattle.serve_command.specs.Stops.{input_of}
 use Rattle.serve_command.proofs.EndLaws.{ends_refused}
 use Rattle.serve_command.proofs.command.serve.Goals as goal
 
@@ -21,7 +20,7 @@ returns-in-Ok-clause-ends g c =
       | inr serves ↦ inr (record {
         meaning = meaning_of c.in-Ok.files;
         gives = c.in-Ok.ensures.gives None;
-        serves = subst (λ (h : Option Files). Serves (meaning_of c.in-Ok.files) (input_of h) (g.K.Sink.written c.args.sink.now) (g.K.Sink.written c.serve_files-status.new.sink) (g.S.Source.taken c.serve_files-status.new.source) c.serve_files-status.result) c.read_check_files.ensures.held serves;
+        serves = subst (λ (h : Option Files). Serves (meaning_of c.in-Ok.files) h (g.K.Sink.written c.args.sink.now) (g.K.Sink.written c.serve_files-status.new.sink) (g.S.Source.taken c.serve_files-status.new.source) (g.S.SourceBeside.takes c.serve_files-status.new.source) c.serve_files-status.result) c.read_check_files.ensures.held serves;
       })
     ]
 

@@ -6,7 +6,7 @@ use Rattle.serve_command.proofs.input.serve_input.Given as goal
 abbrev pub invariant-takes : goal.invariant-takes
 invariant-takes g l = record {
   suits : Suits l.update l.desk.driver;
-  taking : Taking l.fn.desk.driver (g.S.Source.left l.fn.source) (g.S.Source.left l.source) (g.K.Sink.written l.fn.sink) (g.K.Sink.written l.sink) (g.S.Source.taken l.source) l.desk.driver l.desk.line;
+  taking : Taking l.fn.desk.driver (g.S.Source.left l.fn.source) (g.S.Source.left l.source) (g.K.Sink.written l.fn.sink) (g.K.Sink.written l.sink) (g.S.Source.taken l.source) (g.S.SourceBeside.takes l.source) l.desk.driver l.desk.line;
   current : IsTrue (g.S.Source.is_current l.source);
   selected : g.S.Source.selected l.source ≡ g.S.Source.selected l.fn.source;
   held : g.S.Source.held l.source ≡ g.S.Source.held l.fn.source;
