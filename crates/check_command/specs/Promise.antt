@@ -11,12 +11,11 @@ use Rattle.check_base.specs.Checks.{CheckMeaning, FilesMeanPlan, FilesAreCertifi
 
 -- the files and their names, what was written before and after the run, and how it ended
 pub record CheckPromise (files : Files) (names : CheckNames) (old new : Option (List ℕ)) (result : Status) : Type 0 where
-  -- Done comes exactly where the five files are within their limits and mean a network, two configurations, a policy and a plan of this
-  -- update that is certified, with at most 8192 classes.
+  -- Done comes exactly where the five files mean a network, two configurations, a policy and a certified plan of this update, with at
+  -- most 8192 classes.
   pub done : IsComplete result → ((result ≡ status.Done) ↔ FilesAreCertified files names)
-  -- The headline (docs/THEOREMS.md). Then the update is consistent: in every state of every run, in which the changes of each round come in
-  -- any order between the hops of packets, each packet's trace meets the demands, and under two phases it is the old or the new path.
+  -- The headline (docs/THEOREMS.md). Then the update is consistent: in every state of every run, with the changes of each round in any
+  -- order between the hops of packets, each packet's trace meets the demands, and under two phases it is the old or the new path.
   pub keeps : (m : CheckMeaning) → FilesMeanPlan files names m → result ≡ status.Done → IsConsistent m.update m.plan.rounds (is_two_phase m.plan.evidence)
-  -- Refused comes exactly where the plan isn't certified, and the line names the first reason, in the order of docs/FORMATS.md; too many
-  -- classes are a bad file.
+  -- Refused comes exactly where the plan isn't certified, and the line names the first reason, in the order of docs/FORMATS.md.
   pub refusals : RefusesUncertified files names old new result

@@ -1,5 +1,5 @@
 -- What a run of `pack` says of the files of a source that tells.
-use Rattle.std.proofs.Common.{◌≡◌, ◌≢◌, ◌⊎◌, ℕ, ◌+◌, ◌*◌, ◌≤◌, false, true, List, [], ◌∷◌, ◌++◌, length, refl, sym, ap, ◌∙◌, subst, inl, inr, arith}
+use Rattle.std.proofs.Common.{◌≡◌, ◌≢◌, ℕ, ◌+◌, ◌*◌, ◌≤◌, false, true, List, [], ◌∷◌, ◌++◌, length, refl, sym, ap, ◌∙◌, subst, inl, inr, arith}
 use Rattle.std.specs.declared.option.Option.{Option}
 use Rattle.std.specs.List.{AllByRecursion}
 use Rattle.file_access.specs.Outside.{Files}
@@ -33,15 +33,15 @@ use Rattle.command_base.specs.Runs.{IsComplete, Answered}
 use Rattle.command_base.specs.Updates.{FilesMeanUpdate}
 use Rattle.command_base.proofs.JudgementLaws.{IsAnswerOn, refusals}
 use Rattle.command_base.proofs.RunLaws.{settled_done}
-use Rattle.plan_command.specs.Ends.{BothEndsAreGood, IsEndLine}
-use Rattle.plan_command.specs.NewPlans.{FilesMeanTrees, FilesMeanGoodEnds}
-use Rattle.plan_command.specs.Planned.{SaysOfGoodEnds, SaysPlanOf, SaysWhyNone}
+use Rattle.plan_command.specs.Ends.{BothEndsAreGood}
+use Rattle.plan_command.specs.NewPlans.{FilesMeanGoodEnds}
+use Rattle.plan_command.specs.Planned.{SaysWhyNone}
 use Rattle.plan_command.proofs.PlannedLaws.{one_searched}
 use Rattle.plan_command.proofs.UpdateAnswers as law
 use Rattle.plan_command.proofs.UpdateAnswers.{AreApart, IsOneStuck, IsOneTried, AnswersUpdate, SaysOfEnds, answer_on, answers_as, none_fits, trees_good}
 use Rattle.pack_command.specs.declared.names.PackKind.{PackKind}
 use Rattle.pack_command.specs.declared.names.PackKind.TheVariants as pack_kind
-use Rattle.pack_command.specs.Chosen.{IsPackedPlan, IsPackingOrdered, IsPackingStuck, IsOrderedPlan, HasOrderedPlan, HasNoOrderedPlan, AreTriedFor, phased_plan, phased_count, IsPackPlan}
+use Rattle.pack_command.specs.Chosen.{IsPackedPlan, IsPackingOrdered, IsOrderedPlan, HasOrderedPlan, HasNoOrderedPlan, AreTriedFor, phased_plan, phased_count, IsPackPlan}
 use Rattle.pack_command.specs.Names.{PackNames}
 use Rattle.pack_command.specs.Packed.{SaysNoPlan, PacksInFewRounds, IsPacked, no_ordered_lines}
 use Rattle.pack_command.specs.PackFiles.{EndsInOrder, HasPackPlan, IsPackable, IsPackRefusal, AreFull}
@@ -66,6 +66,11 @@ PackedIsFull = (to : Target) (tables : List (List Rule)) (round : List Change) �
 abbrev pub OneIsEnough : Type 0
 OneIsEnough = (to : Target) (old : List (List Rule)) → remaining_changes old to.new ≢ [] → AllByRecursion IsTable old → AllByRecursion IsTable to.new → CanStand to old (remaining_changes old to.new)
     → PacksOrdered to old (remaining_changes old to.new ∷ [])
+
+-- where there is one packed round, all changes can be one
+abbrev pub OneIsNeeded : Type 0
+OneIsNeeded = (to : Target) (old : List (List Rule)) (round : List Change) → AllByRecursion IsTable old → AllByRecursion IsTable to.new → PacksOrdered to old (round ∷ [])
+    → CanStand to old (remaining_changes old to.new)
 
 -- there are no more packed rounds than changes
 abbrev pub PackedAreFew : Type 0
@@ -209,6 +214,16 @@ module _ (apart : AreApart) (packing_apart : PackingIsApart) (u : Update) where
         let few = once.few in
         omega (arith, within, few)
 
+    -- all changes can be the one packed round
+    single_needed : OneIsNeeded → (rounds : List (List Change)) → PacksOrdered (update_target u) u.old rounds → length rounds ≡ 1 → CanStand (update_target u) u.old (remaining_changes u.old u.new)
+    single_needed needed [] ends is = cc
+    single_needed needed (round ∷ []) ends is = needed (update_target u) u.old round (tables_of_user u u.old old_user) (tables_of_user u u.new new_user) ends
+    single_needed needed (round ∷ other ∷ rounds) ends is = let none : ⊥ = omega (arith, is) in absurd none
+
+    pub one_round_needed : PackedIsFull → OneIsNeeded → (k : PackKind) (p : Plan) → IsPackingOrdered u → is_two_phase p.evidence ≡ false → IsPackPlan k u p → length p.rounds ≡ 1
+        → CanStand (update_target u) u.old (remaining_changes u.old u.new)
+    one_round_needed full needed k p packing ordered is one = single_needed needed p.rounds (full_of full k p packing ordered is).0 one
+
 -- ---- the answer
 
 -- where such rounds are tried before two phases, the update isn't refused
@@ -297,9 +312,9 @@ old_user_of files names u mean = configuration_shown u.net mean.old_is.bytes u.o
 new_user_of : (files : Files) (names : UpdateNames) (u : Update) → FilesMeanUpdate files names u → IsUserConfig u.net u.new
 new_user_of files names u mean = configuration_shown u.net mean.new_is.bytes u.new mean.new_is.means
 
-pub promised : (files : Files) (names : PackNames) (old new : Option (List ℕ)) (result : Status) → AreApart → IsOneStuck → PackingIsApart → PackingIsOne → PackedIsFull → OneIsEnough → PackedAreFew → PhasedIsCounted
+pub promised : (files : Files) (names : PackNames) (old new : Option (List ℕ)) (result : Status) → AreApart → IsOneStuck → PackingIsApart → PackingIsOne → PackedIsFull → OneIsEnough → OneIsNeeded → PackedAreFew → PhasedIsCounted
     → (IsComplete result → Answered (IsPacked names.kind) files (reading_update names.files) old new result) → PackPromise files names old new result
-promised files names old new result apart one packing_apart packing_one full enough few counted answered =
+promised files names old new result apart one packing_apart packing_one full enough needed few counted answered =
     let k : PackKind = names.kind in
     let runs : IsComplete result → AnswersPack files names old new result =
     λ settled. answers_as (SaysNoPlan k) (IsPackable k) (IsPackRefusal k) (pack_on apart packing_apart k) (said_packable apart packing_apart k) (answered settled) in
@@ -329,6 +344,9 @@ promised files names old new result apart one packing_apart packing_one full eno
           full_of apart packing_apart u full k p packing ordered (law.which_of (runs (settled_done _ is)) before told is u p mean text);
       one_round = λ other before u p told is mean text can.
           one_round_of_all apart packing_apart u (old_user_of files names.files u mean) (new_user_of files names.files u mean) counted packing_one enough can k other p
+          (law.which_of (runs (settled_done _ is)) before told is u p mean text);
+      one_round_only = λ before u p told is mean text packing ordered.
+          one_round_needed apart packing_apart u (old_user_of files names.files u mean) (new_user_of files names.files u mean) full needed k p packing ordered
           (law.which_of (runs (settled_done _ is)) before told is u p mean text);
       tree = λ settled u trees.
           let packs = (runs settled).of_trees u trees in

@@ -28,22 +28,22 @@ use Rattle.pack_command.specs.PackFiles.{EndsInOrder, FilesHavePackPlan, FilesPa
 
 -- the files, their names and KIND, what was written before and after the run, and how it ended
 pub record PackPromise (files : Files) (names : PackNames) (old new : Option (List ℕ)) (result : Status) : Type 0 where
-  -- Done comes exactly where the four files are within their limits and mean an update with at most 8192 classes, both configurations have
-  -- good paths for every class, and packing or the search ends ordered, or tags and table entries suffice for two phases; with KIND
-  -- `ordered` only the former, with `two-phase` only the latter.
+  -- Done comes exactly where the four files mean an update with at most 8192 classes, both configurations have good paths for every
+  -- class, and packing or the search ends ordered, or tags and table entries suffice for two phases; with KIND `ordered` only the former,
+  -- with `two-phase` only the latter.
   pub done : IsComplete result → ((result ≡ status.Done) ↔ FilesHavePackPlan files names)
   -- So without KIND it comes wherever there is a plan for `plan`.
   pub wherever : names.kind ≡ pack_kind.Any → IsComplete result → FilesHavePlan files names.files → result ≡ status.Done
   -- Then the text of the chosen plan was written. Without KIND that is the packed one, or where packing ends stuck that of the search; or
   -- that of two phases by depth, where the other has more than twice as many rounds or there is no other. Reading it gives this plan.
   pub writes : (u : Update) → FilesMeanUpdate files names.files u → result ≡ status.Done → WritesPlanOf (IsPackPlan names.kind) u old new
-  -- The plan that was written is certified, so the update is consistent: it keeps each packet's trace good in every state of every run.
+  -- This plan is certified, so the update is consistent.
   pub keeps : (before : List ℕ) (u : Update) (p : Plan) → old ≡ Some before → result ≡ status.Done → FilesMeanUpdate files names.files u → WritesPlan u.net p old new → KeepsConsistent u p
-  -- Where what was written has no more bytes than a plan may have, which are 512 MiB, `check` over the same files and this text says Done.
+  -- Where the text has no more bytes than a plan may have, which are 512 MiB, `check` over the same files and this text says Done.
   pub checked : (others : Files) (before plan text : List ℕ) → old ≡ Some before → result ≡ status.Done → Appends old new text
       → length text ≤ limit_of kind.Plan → HoldBeside files others names.files plan text → FilesAreCertified others (record { update = names.files; plan = plan })
-  -- Where packing or the search ends ordered it has at most as many rounds as changes lead from the old to the new tables: as many
-  -- as an ordered plan of `plan` has. With KIND `two-phase` nothing like that is said.
+  -- Where packing or the search ends ordered it has at most as many rounds as changes lead from the old to the new tables, as an ordered
+  -- plan of `plan` has. With KIND `two-phase` that isn't said.
   pub never_more : names.kind ≢ pack_kind.TwoPhase → (before : List ℕ) (u : Update) (p : Plan) → old ≡ Some before → result ≡ status.Done → FilesMeanUpdate files names.files u → WritesPlan u.net p old new
       → EndsInOrder u → length p.rounds ≤ length (remaining_changes u.old u.new)
   -- Without KIND, where there are tags and room for two phases, it has at most twice as many rounds as two phases by depth: two for each
@@ -64,17 +64,18 @@ pub record PackPromise (files : Files) (names : PackNames) (old new : Option (Li
   -- Where all changes from the old to the new tables can be one round, it has no more than one, but with KIND `two-phase`.
   pub one_round : names.kind ≢ pack_kind.TwoPhase → (before : List ℕ) (u : Update) (p : Plan) → old ≡ Some before → result ≡ status.Done → FilesMeanUpdate files names.files u → WritesPlan u.net p old new
       → CanStand (update_target u) u.old (remaining_changes u.old u.new) → length p.rounds ≤ 1
+  -- Where packing ends ordered and the plan is an ordered one of one round, all changes from the old to the new tables can be one round.
+  pub one_round_only : (before : List ℕ) (u : Update) (p : Plan) → old ≡ Some before → result ≡ status.Done → FilesMeanUpdate files names.files u → WritesPlan u.net p old new
+      → IsPackingOrdered u → is_two_phase p.evidence ≡ false → length p.rounds ≡ 1 → CanStand (update_target u) u.old (remaining_changes u.old u.new)
   -- On an update of destination trees (docs/THEOREMS.md) with at most 8192 classes packing ends ordered, and it says Done, with KIND
   -- `two-phase` where there are tags and room.
   pub tree : IsComplete result → (u : Update) → FilesMeanTrees files names.files u → (names.kind ≢ pack_kind.TwoPhase → result ≡ status.Done) × IsPackingOrdered u
-  -- There it has at most as many rounds as a class's new path that leaves has places at which the lookup differs between the old and the
-  -- new tables; one more where some class's new path is dropped and the lookup differs at its entry; and one more where some rule with
-  -- another action in the new tables is picked by the lookup at no place of a class's new path. With KIND `two-phase` it is not said.
+  -- There it has at most H + b + c rounds, by the bounds of docs/THEOREMS.md. With KIND `two-phase` that isn't said.
   pub tree_rounds : names.kind ≢ pack_kind.TwoPhase → (before : List ℕ) (u : Update) (p : Plan) → old ≡ Some before → result ≡ status.Done → FilesMeanTrees files names.files u → WritesPlan u.net p old new
       → (most dropped unmet : ℕ) → AreBounds (bare_task u) u.old most dropped unmet → length p.rounds ≤ most + dropped + unmet
   -- Refused comes exactly where a configuration has no good path for some class, and the line names the first one, the old configuration
-  -- before the new; and with KIND `ordered` where both have them and packing and the search end stuck, and the lines have the rounds of the
-  -- search. Too many classes are a bad file.
+  -- before the new; and with KIND `ordered` where both have them and packing and the search end stuck, and the lines have the rounds of
+  -- the search.
   pub refusals : RefusalPromise (FilesMeanUpdate files names.files) update_count (IsPackable names.kind) (IsPackRefusal names.kind) old new result
   -- Too few tags, and a switch that is too small, come exactly where packing and the search end stuck and these don't suffice, tags before
   -- tables, and with KIND `two-phase` also where they aren't stuck; the lines have the numbers and the rounds of the search that is stuck.

@@ -47,17 +47,16 @@ pub record EndAlike (one other : Status) : Type 0 where
 -- the files and their names, what was written before and after the run, and how it ended
 pub record PathsPromise (files : Files) (names : ConfigNames) (old new : Option (List ℕ))
     (result : Status) : Type 0 where
-  -- Done comes exactly where the files are within their limits and mean a network, a configuration and a policy, there are at most 8192
-  -- classes, and each has a good path.
+  -- Done comes exactly where the files mean a network, a configuration and a policy with at most 8192 classes, each of which has a good
+  -- path.
   pub done : IsComplete result → ((result ≡ status.Done) ↔ FilesHold files names)
-  -- Then every packet of every run over the configuration, in which nothing is changed, meets the demands.
+  -- Then every packet of every run over the configuration meets the demands.
   pub keeps : (m : ConfigMeaning) → FilesMean files names m → result ≡ status.Done → KeepsPacketsGood m.net m.tables m.demands
-  -- Refused comes exactly where some class has no good path, with the listing; too many classes are a bad file, as for `config`.
+  -- Refused comes exactly where some class has no good path, with the listing.
   pub refusals : RefusalPromise (FilesMean files names) config_count Holds IsPathsText old new result
-  -- In both cases a line for each class is written, in their order: the stops of its path and how it ends, and the verdict on it, judged
-  -- alone, which is `good` or `free` by whether some demand covers the class; and last the counts of these lines (`WritesPaths`). Each host
-  -- port with each declared VLAN, and each address, is of a class that has a line, and the path and the verdict there are those of every
-  -- address of the class (`SpeakForAll`).
+  -- In both cases a line for each class is written, in their order: its path, how that ends, and the verdict on it alone, which is `good`
+  -- or `free` by whether some demand covers the class; and last the counts of these lines (`WritesPaths`). Each entry and each address is
+  -- of a class that has a line, whose path and verdict are those of every address of the class (`SpeakForAll`).
   pub lists : (m : ConfigMeaning) → FilesMean files names m
       → (result ≡ status.Done) ⊎ (result ≡ status.Refused) → WritesPaths m old new
   -- Where it is refused, the first line that is neither `good` nor `free` is that of the class that `config` names, with its word and its

@@ -20,24 +20,23 @@ use Rattle.plan_command.specs.Planned.{IsNewPlan, AreSearched}
 
 -- the files and their names, what was written before and after the run, and how it ended
 pub record PlanPromise (files : Files) (names : UpdateNames) (old new : Option (List ℕ)) (result : Status) : Type 0 where
-  -- Done comes exactly where the four files are within their limits and mean a network, two configurations and a policy with at most 8192
-  -- classes, both configurations have good paths for every class, and the search ended ordered, or it ended stuck and tags and table
-  -- entries suffice for two phases.
+  -- Done comes exactly where the four files mean a network, two configurations and a policy with at most 8192 classes, both
+  -- configurations have good paths for every class, and the search ended ordered, or it ended stuck and tags and table entries suffice
+  -- for two phases.
   pub done : IsComplete result → ((result ≡ status.Done) ↔ FilesHavePlan files names)
-  -- Then the text of the plan was written: the one of the search, or that of two phases with the rounds of the search as those that were
-  -- tried. Reading it gives this plan.
+  -- Then the text of the plan was written: that of the search, or that of two phases with the rounds that the search tried. Reading it
+  -- gives this plan.
   pub writes : (u : Update) → FilesMeanUpdate files names u → result ≡ status.Done → WritesPlanOf IsNewPlan u old new
-  -- The plan that was written is certified, so the update is consistent, as the headline has it (docs/THEOREMS.md): it keeps each packet's
-  -- trace good in every state of every run.
+  -- This plan is certified, so the update is consistent, as the headline has it (docs/THEOREMS.md).
   pub keeps : (before : List ℕ) (u : Update) (p : Plan) → old ≡ Some before → result ≡ status.Done → FilesMeanUpdate files names u → WritesPlan u.net p old new → KeepsConsistent u p
-  -- Where what was written has no more bytes than a plan may have, which are 512 MiB, `check` over the same files and this text says Done.
+  -- Where the text has no more bytes than a plan may have, which are 512 MiB, `check` over the same files and this text says Done.
   pub checked : (others : Files) (before plan text : List ℕ) → old ≡ Some before → result ≡ status.Done → Appends old new text
       → length text ≤ limit_of kind.Plan → HoldBeside files others names plan text → FilesAreCertified others (record { update = names; plan = plan })
   -- On an update of destination trees (docs/THEOREMS.md) with at most 8192 classes it says Done and writes an ordered plan, with as many
-  -- rounds as rules differ: never two phases, too few tags or a switch that is too small.
+  -- rounds as rules differ.
   pub tree : IsComplete result → (u : Update) → FilesMeanTrees files names u → (result ≡ status.Done) × WritesOrderedPlan u old new
   -- Refused comes exactly where a configuration has no good path for some class, and the line names the first one, the old configuration
-  -- before the new; too many classes are a bad file.
+  -- before the new.
   pub refusals : RefusesBadEnds files names old new result
   -- Too few tags, and a switch that is too small, come exactly where the search ended stuck and these don't suffice, tags before tables;
   -- the lines have the numbers and the rounds of the search.

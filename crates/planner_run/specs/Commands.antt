@@ -20,6 +20,7 @@ use Rattle.certificates.specs.Updates.{Update}
 use Rattle.command_base.specs.Readings.{reading_update, reading_plan_files}
 use Rattle.command_base.specs.Updates.{PlanMeaning}
 use Rattle.replay_command.specs.Replayed.{ReplayMeaning, replay_dialogue, IsReplayAnswer}
+use Rattle.tables_command.specs.Tabled.{TablesMeaning, tables_dialogue}
 use Rattle.trace_command.specs.Traced.{TraceMeaning, trace_dialogue, IsTraceAnswer}
 use Rattle.import_command.specs.Imported.{ImportMeaning, import_dialogue, IsImportAnswer}
 use Rattle.drive_command.specs.Driven.{DriveMeaning, drive_dialogue, IsDriveAnswer}
@@ -144,7 +145,7 @@ pub data Ending : Type 0 where
   OfUpgrade : PlanMeaning → Ending
   OfEmit : PlanMeaning → Ending
   OfReplay : ReplayMeaning → Ending
-  OfTables : ReplayMeaning → Ending
+  OfTables : TablesMeaning → Ending
   OfTrace : TraceMeaning → Ending
   OfSimulate : ℕ → ℕ → CheckMeaning → Ending
   OfExplain : CheckMeaning → Ending
@@ -190,7 +191,7 @@ dialogue_of (Pack names) = and_then (reading_update names.files) (λ u. Ends (Of
 dialogue_of (Upgrade names) = and_then (reading_plan_files names) (λ m. Ends (OfUpgrade m))
 dialogue_of (Emit names) = and_then (reading_plan_files names) (λ m. Ends (OfEmit m))
 dialogue_of (Replay names) = and_then (replay_dialogue names) (λ m. Ends (OfReplay m))
-dialogue_of (Tables names) = and_then (replay_dialogue names) (λ m. Ends (OfTables m))
+dialogue_of (Tables names) = and_then (tables_dialogue names) (λ m. Ends (OfTables m))
 dialogue_of (Trace names) = and_then (trace_dialogue names) (λ m. Ends (OfTrace m))
 dialogue_of (Simulate names) = and_then (check_dialogue names.check) (λ m. Ends (OfSimulate names.start names.count m))
 dialogue_of (Explain names) = and_then (check_dialogue names) (λ m. Ends (OfExplain m))

@@ -65,7 +65,7 @@ use replay_command::laws::replay_promised;
 use replay_command::replay;
 use sample_command::laws::sample_promised;
 use sample_command::sample;
-use serve_command::serve;
+use serve_command::{SourceBeside, serve};
 use simulate_command::laws::simulate_promised;
 use simulate_command::simulate;
 use std::alloc::Global;
@@ -127,7 +127,7 @@ fn write_answer<K: Sink>(sink: &mut K, status: Status, text: &[u8]) -> Status
 }
 
 /// Does what the words ask for, with the files of the source, and writes the text to the sink.
-fn respond<S: Source, K: Sink>(
+fn respond<S: SourceBeside<K>, K: Sink>(
     alloc: Global,
     words: &[String],
     source: &mut S,
@@ -166,7 +166,7 @@ fn respond<S: Source, K: Sink>(
     ensures serve { (names : CheckNames)
         → asked_command (map string_bytes words.now) ≡ Some (Serve names)
         → IsServeEnd (S.held source.old) names (K.written sink.old) (K.written sink.new)
-        (S.selected source.new) (S.taken source.new) result }
+        (S.selected source.new) (S.taken source.new) (S.takes source.new) result }
     ensures serve_fault { (names : CheckNames)
         → asked_command (map string_bytes words.now) ≡ Some (Serve names) → result
         ≡ Status.ReadFault
@@ -196,7 +196,7 @@ fn respond<S: Source, K: Sink>(
 ///
 /// `words` are those after the program's name. The answer is built whole before any of it is written; `serve` alone answers line
 /// by line.
-pub fn run<S: Source, K: Sink>(
+pub fn run<S: SourceBeside<K>, K: Sink>(
     alloc: Global,
     words: &[String],
     source: &mut S,
@@ -284,7 +284,7 @@ pub fn run<S: Source, K: Sink>(
     ensures serve { (names : CheckNames)
         → asked_command (map string_bytes words.now) ≡ Some (Serve names)
         → IsServeEnd (S.held source.old) names (K.written sink.old) (K.written sink.new)
-        (S.selected source.new) (S.taken source.new) result }
+        (S.selected source.new) (S.taken source.new) (S.takes source.new) result }
     ensures serve_fault { (names : CheckNames)
         → asked_command (map string_bytes words.now) ≡ Some (Serve names) → result
         ≡ Status.ReadFault
@@ -296,7 +296,7 @@ pub fn run<S: Source, K: Sink>(
     ensures serve_promise { (files : Files) (names : CheckNames) → S.held source.old ≡ Some files
         → asked_command (map string_bytes words.now) ≡ Some (Serve names)
         → ServePromise files names (K.written sink.old) (K.written sink.new) (S.taken source.new)
-        result }
+        (S.takes source.new) result }
 
     // Words that name no file leave the source as it is.
     ensures unread { NamesNoFile (asked_command (map string_bytes words.now)) → source.new

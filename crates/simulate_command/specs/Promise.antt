@@ -10,13 +10,11 @@ use Rattle.simulate_command.specs.Simulated.{WritesRecord}
 
 -- the files and their names with START and COUNT, what was written before and after the run, and how it ended
 pub record SimulatePromise (files : Files) (names : SimulateNames) (old new : Option (List ℕ)) (result : Status) : Type 0 where
-  -- Done comes exactly where it does for `check`: the five files mean an update and a plan of it that is certified, with at most 8192
-  -- classes.
+  -- Done comes exactly where it does for `check`: the plan is certified, with at most 8192 classes.
   pub done : IsComplete result → ((result ≡ status.Done) ↔ FilesAreCertified files names.check)
-  -- Then the record of a simulation was written: a run of the plan from the old tables, driven by START over COUNT packets of the classes,
-  -- that is over after its events and within the budget. Read as a schedule the text means these events, and its comments are the traces at
-  -- their end. So an accepted plan can be carried out.
+  -- Then the record of a simulation was written: a run of the plan from the old tables, driven by START over COUNT packets of the
+  -- classes, that is over after its events and within the budget. Read as a schedule the text means these events, and its comments are
+  -- the traces at their end. So an accepted plan can be carried out.
   pub run : (m : CheckMeaning) → FilesMeanPlan files names.check m → result ≡ status.Done → WritesRecord names.start names.count m old new
-  -- Refused comes exactly where the plan isn't certified, and the line names the first reason; too many classes are a bad file, both as for
-  -- `check`.
+  -- Refused comes exactly where the plan isn't certified, and the line names the first reason, as for `check`.
   pub refusals : RefusesUncertified files names.check old new result

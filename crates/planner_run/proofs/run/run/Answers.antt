@@ -7,6 +7,7 @@ use Rattle.config_command.specs.Configs.{config_dialogue, IsConfigAnswer}
 use Rattle.check_base.specs.Checks.{check_dialogue}
 use Rattle.command_base.specs.Readings.{reading_update, reading_plan_files}
 use Rattle.replay_command.specs.Replayed.{replay_dialogue, IsReplayAnswer}
+use Rattle.tables_command.specs.Tabled.{tables_dialogue}
 use Rattle.trace_command.specs.Traced.{trace_dialogue, IsTraceAnswer}
 use Rattle.import_command.specs.Imported.{import_dialogue, IsImportAnswer}
 use Rattle.drive_command.specs.Driven.{drive_dialogue, IsDriveAnswer}
@@ -73,7 +74,7 @@ returns-clause-replay g c = λ files names tells asks.
 pub returns-clause-tables : goal.returns-clause-tables
 returns-clause-tables g c = λ files names tells asks.
     c.tables_promised.ensures files names _ _ _ (λ settled.
-    answered_as IsTablesAnswer IsSaid OfTables files (replay_dialogue names) _ _ _ (λ m answer said. said) (answered _ _ _ _ _ files (Tables names) (c.respond.ensures.all (unserved (map string_bytes c.args.words.now) (Tables names) asks (λ none. none)) settled) tells asks))
+    answered_as IsTablesAnswer IsSaid OfTables files (tables_dialogue names) _ _ _ (λ m answer said. said) (answered _ _ _ _ _ files (Tables names) (c.respond.ensures.all (unserved (map string_bytes c.args.words.now) (Tables names) asks (λ none. none)) settled) tells asks))
 
 pub returns-clause-trace : goal.returns-clause-trace
 returns-clause-trace g c = λ files names tells asks.
@@ -102,8 +103,8 @@ returns-clause-drive g c = λ files names tells asks.
 
 pub returns-clause-serve_promise : goal.returns-clause-serve_promise
 returns-clause-serve_promise g c = λ files names tells asks.
-    c.serve_promised.ensures files names _ _ _ _ _
-    (subst (λ (held : Option Files). IsServeEnd held names (g.K.Sink.written c.args.sink.now) (g.K.Sink.written c.respond.new.sink) (g.S.Source.selected c.respond.new.source) (g.S.Source.taken c.respond.new.source) c.respond.result) tells (c.respond.ensures.serve names asks))
+    c.serve_promised.ensures files names _ _ _ _ _ _
+    (subst (λ (held : Option Files). IsServeEnd held names (g.K.Sink.written c.args.sink.now) (g.K.Sink.written c.respond.new.sink) (g.S.Source.selected c.respond.new.source) (g.S.Source.taken c.respond.new.source) (g.S.SourceBeside.takes c.respond.new.source) c.respond.result) tells (c.respond.ensures.serve names asks))
 
 pub returns-clause-sample : goal.returns-clause-sample
 returns-clause-sample g c = λ n asks.
