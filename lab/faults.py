@@ -23,6 +23,18 @@ that is what `planner apply` answers for. PLANNER names another program than the
     turned at the end the update comes to its end, and is turned back
     full disk         the record can't be written any more in the middle of the update (a limit on the size of files); then it can
 
+and those of hard_faults.py:
+
+    lost while compared  a switch loses its table and its connection while `planner tables` runs in a comparison, and is back before that ends
+    closed terminal   SIGHUP in the middle
+    closed stream     nobody reads the error stream any more, from the middle on
+    hanging serve     `planner serve` says nothing any more from its first change on
+    second update     `planner update` is ended by a key, and begun once more
+    late barriers     all that one switch says comes later than the wait
+    gone, onward      a switch is gone in the middle round, with its table: --resume --without, and when it is there again --resume --repair
+    gone, back        the same with --back
+    adopted           bridges in standalone mode are given the old tables by `planner adopt` (networks without cycles alone)
+
 Exit status: 0 where each fault was told, none broke a packet beside it, and each next step led to the new tables, or those that turn back to the old ones.
 """
 from __future__ import annotations
@@ -47,6 +59,7 @@ HERE = pathlib.Path(__file__).resolve().parent
 sys.path[:0] = [str(HERE), str(HERE.parent)]
 import traffic
 from between import Between
+from hard_faults import HARD
 from planner_tools import program
 
 TYPE_CHECKING = False
@@ -107,9 +120,24 @@ class Lab:
             ["ovs-vsctl", f"--db=unix:{self.dir}/db.sock", *words], check=True, timeout=60, capture_output=True
         )
 
+    def ports(self, name: str, state: str) -> None:
+        """Takes all ports of a switch down, or up."""
+        ends = [*self.topology["hosts"], *(end for link in self.topology["links"] for end in link)]
+        for end in ends:
+            if end.split(":")[0] == name:
+                self.ofctl("mod-port", name, end.replace(":", "_"), state)
+
+    def pause(self) -> None:
+        """No packets enter, and those that are under way leave."""
+        self.pour.send_signal(signal.SIGSTOP)
+        time.sleep(1)
+
+    def go_on_pouring(self) -> None:
+        self.pour.send_signal(signal.SIGCONT)
+
     def begin(
         self, *more: Any, record: pathlib.Path | None = None, listed: pathlib.Path | None = None,
-        before: Sequence[Any] = (), wait: float | str | None = None,
+        before: Sequence[Any] = (), wait: float | str | None = None, planner: str | None = None,
     ) -> subprocess.Popen[str]:
         words = [
             *before, sys.executable, "-B", FRONT_END, "apply", *self.files, record or self.record, "--switches",
@@ -117,7 +145,7 @@ class Lab:
         ]
         return subprocess.Popen(
             [str(one) for one in words], stderr=subprocess.PIPE, text=True,
-            env={**os.environ, "PLANNER": program.path()},
+            env={**os.environ, "PLANNER": planner or program.path()},
         )
 
     def end_of(self, run: subprocess.Popen[str]) -> tuple[int, str]:
@@ -157,14 +185,14 @@ class Lab:
         self.led_to = "old"
         return "--back", *self.end_of(self.begin("--back"))
 
-    def begin_slowly(self) -> tuple[subprocess.Popen[str], str]:
+    def begin_slowly(self, *more: str) -> tuple[subprocess.Popen[str], str]:
         """A run in whose middle round a switch has been given its messages and isn't heard yet; and that switch. A
         round without changes is passed over."""
         plan = json.loads(pathlib.Path(self.files[4]).read_text())
         at = next(at for at in range(self.rounds // 2, self.rounds) if plan["rounds"][at])
         name = plan["rules"][plan["rounds"][at][0][1]]["switch"]
         self.between.delay[name] = 1.5
-        run = self.begin()
+        run = self.begin(*more)
         self.until(f"round {at + 1} starts", run)
         time.sleep(0.5)
         return run, name
@@ -343,7 +371,7 @@ FAULTS = {
     "two controllers": two_controllers, "emptied switch": emptied_switch, "change by hand": change_by_hand,
     "kills": kills, "cuts": cuts, "late": late, "silent": silent, "cut in mid-round": cut_in_mid_round,
     "full table": full_table, "turned from full": turned_from_full, "full disk": full_disk, "turned back": turned_back,
-    "turned at the end": turned_at_the_end,
+    "turned at the end": turned_at_the_end, **HARD,
 }
 
 

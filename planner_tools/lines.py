@@ -20,6 +20,8 @@ EVENTS = {
     "start": "start", "change": "change N", "settle": "settle", "enter": "enter SWITCH:PORT VLAN ADDRESS",
     "hop": "hop N", "lose": "lose N",
 }
+# What the schedules of `tables` have besides.
+TURNS = {"back": "back", "undo": "undo N"}
 INPUTS = {"start": "start", "feed": "feed SWITCH HEX"}
 MOST = {"schedule": "4,000,000 events", "input": "1,000,000 inputs", "replies": "2048 entries"}
 # What a field of a flow entry has to be.
@@ -45,7 +47,10 @@ def explain(explainer: Explainer, kind: str, name: str, field: str, place: int) 
     elif name == "BadLine":
         line = lines[place - 1] if place <= len(lines) else ""
         names = net.names if net is not None else []
-        what, right = {"schedule": bad_event, "input": bad_input, "replies": bad_reply}[kind](line, names)
+        if kind == "schedule":
+            what, right = bad_event(line, names, explainer.run.command.name)
+        else:
+            what, right = {"input": bad_input, "replies": bad_reply}[kind](line, names)
         what += (
             "; the file looks like JSON: are the words in the right order?"
             if line.strip().startswith(("{", "["))
@@ -81,15 +86,16 @@ def shape_fault(line: str) -> str | None:
     return None
 
 
-def bad_event(line: str, names: Sequence[str]) -> tuple[str, str]:
-    """What is wrong with a line of a schedule, and what would be right."""
-    words = line.split()
-    known = EVENTS.get(words[0]) if words else None
+def bad_event(line: str, names: Sequence[str], command: str = "replay") -> tuple[str, str]:
+    """What is wrong with a line of a schedule of a command, and what would be right."""
+    words, events = line.split(), {**EVENTS, **TURNS} if command == "tables" else EVENTS
+    known = events.get(words[0]) if words else None
     if not words or known is None:
-        guess = did_you_mean(words[0], EVENTS) if words else ""
-        return (
-            f"`{short(words[0])}` is no event{guess}" if words else "the line has nothing but white space"
-        ), ", ".join(f"`{one}`" for one in EVENTS.values())
+        guess = did_you_mean(words[0], events) if words else ""
+        what = f"`{short(words[0])}` is no event{guess}" if words else "the line has nothing but white space"
+        if words and words[0] in TURNS:
+            what = f"`{words[0]}` is a line of schedules for `tables`, and none of those for `{command}`"
+        return what, ", ".join(f"`{one}`" for one in events.values())
     fault = shape_fault(line)
     if fault:
         return fault, f"`{known}`"
@@ -144,7 +150,7 @@ def bad_input(line: str, names: Sequence[str]) -> tuple[str, str]:
     """What is wrong with a line of the inputs of a driver, and what would be right."""
     words = line.split()
     right = "`start`, or `feed SWITCH HEX`"
-    if words and words[0] in ("back", "reopen"):
+    if words and words[0] in ("back", "reopen", "dead"):
         return (
             f"`{words[0]}` is a line of `serve`, and none of `drive`",
             f"{right}; `planner serve` takes such a record from its standard input",

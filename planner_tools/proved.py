@@ -20,6 +20,8 @@ if TYPE_CHECKING:
 KEPT = 4 << 20
 WRONG_WORDS, BAD_FILE, UNREAD, UNWRITTEN = 2, 3, 6, 7
 STANDARD_OUTPUT = 1
+# Exit statuses are below this number.
+ANY_STATUS = 256
 INPUT_NAME = "the standard input"
 TWICE = "`-` stands twice among the words, and the standard input can be read only once"
 
@@ -46,6 +48,12 @@ def answer_for(how: How, *given: Given | str, good: Sequence[int] = (0,)) -> tup
     run = Run([one if isinstance(one, Given) else str(one) for one in given], how)
     run.for_person(run.keep_all, program.path, good)
     return run.status, run.text
+
+
+def answer_beside(*given: str) -> tuple[int, str]:
+    """Runs the program for what is said beside another answer: of its own nothing is said, whatever it is. Returns its
+    status and its text."""
+    return answer_for(REFUSALS, *given, good=range(ANY_STATUS))
 
 
 def say_why(*given: Given | str, good: Sequence[int] = (0,)) -> tuple[int, str]:

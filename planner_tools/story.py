@@ -237,7 +237,7 @@ def why_no_run(explainer: Explainer) -> None:
     explainer.voice.refuse(
         f"{found.shown}, line {number}: `{line}` can't happen here{': ' + why if why else ''}",
         [
-            "the lines before it are a run: `replay` says how far it came"
+            f"the lines before it are a run: `{'tables' if is_turned(lines) else 'replay'}` says how far it came"
             if name == "SCHEDULE"
             else (
                 "a line `start` may stand only where no round runs, one is left, and each switch with changes in it has"
@@ -247,10 +247,76 @@ def why_no_run(explainer: Explainer) -> None:
     )
 
 
+def is_turned(lines: Sequence[str]) -> bool:
+    """Whether a schedule has lines that turn rounds, of which `replay` knows nothing."""
+    return any(re.match("(back|undo)( |$)", line) for line in lines)
+
+
+class Turning:
+    """How far a run is in which rounds are turned: how many are settled, the way of the running one, `start` or
+    `back`, or None, and which of its changes are in force. Of packets it knows nothing."""
+
+    def __init__(self, rounds: Sequence[Sequence[Any]], lines: Sequence[str]) -> None:
+        self.rounds, self.settled, self.way = rounds, 0, ""
+        self.made: set[int] = set()
+        for line in lines:
+            self.follow(line.split())
+
+    def follow(self, words: Sequence[str]) -> None:
+        """Takes an event that can happen."""
+        if words[:1] == ["start"]:
+            self.way, self.made = "start", set()
+        elif words[:1] == ["back"] and not self.way:
+            self.settled, self.made = self.settled - 1, set(range(len(self.rounds[self.settled - 1])))
+            self.way = "back"
+        elif words[:1] == ["back"]:
+            self.way = "back"
+        elif words[:1] == ["change"]:
+            self.made.add(int(words[1]))
+        elif words[:1] == ["undo"]:
+            self.made.discard(int(words[1]))
+        elif words[:1] == ["settle"]:
+            self.settled, self.way = self.settled + (self.way == "start"), ""
+
+    def why_not(self, words: Sequence[str]) -> str:
+        """Why an event can't happen, or none."""
+        number, count = self.settled + 1, len(self.rounds)
+        if words[0] == "back" and self.way:
+            return f"round {number} is being undone already"
+        if words[0] == "back":
+            return "" if self.settled else "no round is settled"
+        if words[0] == "start" and self.way:
+            doing = "running" if self.way == "start" else "being undone"
+            return f"round {number} is {doing}, and has to be settled first"
+        if words[0] == "start":
+            return f"all {count} rounds are settled" if self.settled == count else ""
+        if not self.way:
+            return "no round is running"
+        return self.why_not_settled(number) if words[0] == "settle" else self.why_not_made(number, *words)
+
+    def why_not_settled(self, number: int) -> str:
+        is_onward = self.way == "start"
+        left = sorted(set(range(len(self.rounds[self.settled]))) - self.made if is_onward else self.made)
+        told = f"change{'s' if len(left) > 1 else ''} {', '.join(map(str, left[:8]))} of round {number}"
+        return f"{told} {'are' if len(left) > 1 else 'is'} {'pending' if is_onward else 'in force'}"
+
+    def why_not_made(self, number: int, word: str, change: str) -> str:
+        changes = self.rounds[self.settled]
+        if int(change) >= len(changes):
+            return f"round {number} has {counted(len(changes), 'change')}, numbered from 0"
+        if word == "undo" and self.way == "start":
+            return f"round {number} isn't being undone: `back` has to stand before"
+        return "this change isn't in force" if word == "undo" else "this change is made already"
+
+
 def event_refused(explainer: Explainer, line: str, before: str) -> str:
     """Why an event of a schedule can't happen, or none."""
-    status, text = replayed(explainer, before)
     net, plan = explainer.network(), explainer.json("PLAN")
+    if plan is not None and is_turned([*before.split("\n"), line]):
+        is_of_rounds = line.split()[0] in ("start", "back", "change", "undo", "settle")
+        rounds = Changes(nets.plain(plan.root)).rounds
+        return Turning(rounds, before.split("\n")).why_not(line.split()) if is_of_rounds else ""
+    status, text = replayed(explainer, before)
     if status != 0 or net is None or plan is None:
         return ""
     packets, state = traces(text), re.fullmatch(r"(settled|running) (\d+) of (\d+)", text.splitlines()[-1])

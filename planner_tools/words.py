@@ -26,7 +26,7 @@ FILES = {
     ),
     "INPUT": (
         "what a controller was given, one line each: `start`, or `feed` with the name of a switch and bytes that it"
-        " sent; of `apply` also `back` and `reopen`"
+        " sent; of `apply` also `back`, `reopen` and `dead`"
     ),
 }
 # The name that a file has in a folder that stands in place of names.
@@ -188,7 +188,8 @@ PROVED = [
         (
             "Carries out the events of the schedule as `replay` does, and writes, in one line of JSON, the rules that"
             " each switch has then, and the changes of the running round that aren't made yet: a switch may have made"
-            " any of these. Where an event can't happen it names the line of the first one that can't."
+            " any of these. The schedule may turn rounds besides, by the lines `back` and `undo N`. Where an event"
+            " can't happen it names the line of the first one that can't."
         ),
     ),
     Command(
@@ -233,10 +234,10 @@ PROVED = [
         ),
         (
             "Is the core of a controller that carries the plan out, and can turn back. It takes lines from the standard"
-            " input, `start`, `back`, `reopen SWITCH` and `feed SWITCH HEX`, and answers each with a block of lines"
-            " before it takes the next: the messages to send, the sessions that failed, the events, and how far the"
-            " update is. Its memory doesn't grow with the lines. Where the plan isn't certified it answers as `check`"
-            " does."
+            " input, `start`, `back`, `reopen SWITCH`, `dead SWITCH` and `feed SWITCH HEX`, and answers each with a"
+            " block of lines before it takes the next: the messages to send, the sessions that failed, the events, and"
+            " how far the update is. Its memory doesn't grow with the lines. Where the plan isn't certified it answers"
+            " as `check` does."
         ),
     ),
     Command(
@@ -284,7 +285,8 @@ FRONT = [
             " the end it compares what they have with what `planner tables` says they must have, and stops where that"
             " differs; `--repair` puts it right. Every message of the plan is decided by `planner serve`, which stays"
             " beside it; INPUT records the lines that it was given. `--resume` goes on with it, and `--back` turns the"
-            " update back, wherever it stands. A mark on the switches tells other controllers of the update."
+            " update back, wherever it stands, also `--without` a switch that is gone. A mark on the switches tells"
+            " other controllers of the update."
         ),
         False,
     ),
@@ -436,7 +438,7 @@ WISHES = [
     ("whether packets have good paths under my rules", ["config"]),
     ("where packets go, by which rules, what uses a link, what changes for whom", ["paths", "trace", "links", "diff"]),
     ("a plan from old rules to new ones", ["pack", "plan"]), ("whether a plan is safe, whoever made it", ["check"]),
-    ("evidence for rounds of my own", ["certify"]), ("what goes wrong under a plan that isn't", ["explain"]),
+    ("evidence for rounds of my own", ["certify"]), ("how a packet can break my policy under a plan", ["explain"]),
     ("a plan, rules or a run in words or the browser", ["show", "page"]),
     ("to try a plan: a run, where its packets went, the tables then", ["simulate", "replay", "tables"]),
     ("to change the switches", ["update", "adopt", "collect", "apply"]),
@@ -487,7 +489,20 @@ OWN_OPTIONS = {
             "--recover",
             "makes a lost record anew from what the switches have, and goes on with it, forward or by --back",
         ),
-        ("--repair", "puts right what a switch doesn't have as it must have it, in place of stopping"),
+        (
+            "--without SWITCH",
+            (
+                "goes on, or back, or begins, without a switch that is gone: no packet passes it, and it is waited for"
+                " no more; may be given more than once"
+            ),
+        ),
+        (
+            "--repair SWITCH",
+            (
+                "gives a switch that is there again the table that it must have by now, and it takes part again;"
+                " without SWITCH puts right what any switch doesn't have as it must have it, in place of stopping"
+            ),
+        ),
         ("--take-over", "takes away the marks of other updates"),
         ("--no-mark", "puts no mark on the switches, and doesn't mind those of others"),
     ],
@@ -539,6 +554,7 @@ OWN_OPTIONS = {
         *CONNECTIONS, *CARRYING_OUT, ("--yes", "doesn't ask before the first change"),
         ("--dry-run", "ends before the first change"), ("--ordered", "makes an ordered plan, or none"),
         ("--two-phase", "makes a two-phase plan, or none"),
+        ("--without SWITCH", "begins without a switch that is gone, and that no packet passes"),
     ],
 }
 # Commands of the program that are newer than some builds of it.

@@ -1,7 +1,7 @@
 #!/usr/bin/env python3
 """Compares what the program says of random lists of lines with what the model of `serve` (serve_model.py, which shares no code with the program) says.
 Lists of `start` and `feed` alone are given to `drive`: the bytes that it sends to each switch, the sessions that fail, the events, and how far the update
-comes have to be those of the model's blocks. Lists with `back`, `reopen`, comments and bad lines are given to `serve`, a line at a time, each when the
+comes have to be those of the model's blocks. Lists with `back`, `reopen`, `dead`, comments and bad lines are given to `serve`, a line at a time, each when the
 block of the one before is there: each block has to be the model's, byte for byte. The updates are the examples, leaf and spine in one round, and random
 networks of 3 to 5 switches. The switches are made up: they answer in time or late, cut anywhere, with echo requests and other messages between; now and
 then with an error, a wrong number or a message that is none. Prints how much was compared; the exit status is 1 where something differs, or nothing was
@@ -115,7 +115,7 @@ class Lines:
         if self.is_driven and not block[-1].startswith("ok "):
             return                           # such a line is none of `drive`
         words = line.split(b" ")
-        if words[0] == b"reopen" and block[-1].startswith("ok "):
+        if words[0] in (b"reopen", b"dead") and block[-1].startswith("ok "):
             self.switches.waiting[words[1].decode()] = b""       # what was under way is lost
         self.lines.append(line)
         self.blocks.append(block)
@@ -124,12 +124,13 @@ class Lines:
     def next_line(self) -> bytes:
         rng, speaking = self.rng, [name for name, waiting in self.switches.waiting.items() if waiting]
         if not self.is_driven and rng.random() < self.restless:
-            return rng.choice([self.back, self.back, self.reopen, self.comment, self.bad])()
+            return rng.choice([self.back, self.back, self.reopen, self.dead, self.comment, self.bad])()
         if speaking and rng.random() < 0.85:
             return self.feed(rng.choice(speaking))
         if not self.is_driven and rng.random() < 0.5:
-            failed = [name for name, session in self.serve.sessions.items() if session.state == model.FAILED]
-            return f"reopen {rng.choice(failed)}".encode() if failed else self.back()
+            ended = (model.FAILED, model.DEAD)
+            gone = [name for name, session in self.serve.sessions.items() if session.state in ended]
+            return f"reopen {rng.choice(gone)}".encode() if gone else self.back()
         return b"start"
 
     def feed(self, name: str) -> bytes:
@@ -144,6 +145,9 @@ class Lines:
 
     def reopen(self) -> bytes:
         return f"reopen {self.rng.choice(self.names)}".encode()
+
+    def dead(self) -> bytes:
+        return f"dead {self.rng.choice(self.names)}".encode()
 
     def comment(self) -> bytes:
         return self.rng.choice(
@@ -161,7 +165,8 @@ class Lines:
                 b" ", b"start ", b"Start", b"back 1", b"stop", b"feed", f"feed {name}".encode(),
                 f"feed {name} ".encode(), f"feed {name} 0".encode(), f"feed {name} 0g".encode(),
                 f"feed  {name} 00".encode(), f"feed {name} 00 ".encode(), b"feed nobody 00", b"reopen",
-                b"reopen nobody", f"reopen {name} ".encode(), b"start\r", b"\xff\xfe",
+                b"reopen nobody", f"reopen {name} ".encode(), b"dead", b"dead nobody", f"dead {name} ".encode(),
+                b"start\r", b"\xff\xfe",
                 f"feed {name} {'00' * 131072}".encode(),
             ]
         )

@@ -10,7 +10,8 @@ whole, before it takes the next. What it is told:
                          entered before are gone)
     feed SWITCH HEX      bytes came from a switch; a message may be cut anywhere
     reopen SWITCH        the connection with the switch is a new one, what was sent before and isn't done yet never will
-                         be, and it kept its table
+                         be, and it kept its table; or it was dead, and has the table now that the events so far give
+    dead SWITCH          no packet passes this switch any more, and none will before `reopen`
     # ..                 nothing: a line that is empty or begins so is a comment
 
 and what it says, in the order in which it comes about:
@@ -37,6 +38,11 @@ Requests are answered in the order in which they were sent, so that of the round
 missing. A switch with a session that isn't open gets nothing then. When its HELLO opens the session again, it gets the
 messages of the running round that it hasn't answered, with the xids that they had: of a round that is being undone the
 inverses alone.
+
+A dead switch gets nothing, what comes from it is dropped, and it isn't waited for: a round is settled when all others
+have answered, and directly before that stand its changes there that aren't in force, ascending, or those that are,
+descending, where the round is being undone. For `no open` it counts as open. Of a round that was settled so it gets
+nothing later.
 """
 from __future__ import annotations
 
@@ -53,7 +59,7 @@ HELLO, ERROR, ECHO_REQUEST, ECHO_REPLY, FLOW_MOD, BARRIER_REQUEST, BARRIER_REPLY
 HELLO_BYTES = bytes.fromhex("0100000800000000")
 LAST_XID = 0xFFFFFFFF
 LONGEST_LINE = 262144
-WAITING, OPEN, FAILED = "waiting", "open", "failed"
+WAITING, OPEN, FAILED, DEAD = "waiting", "open", "failed", "dead"
 FORWARD, BACK = "forward", "back"
 
 
@@ -227,6 +233,8 @@ class Serve:
             self.back()
         elif len(words) == 2 and words[0] == "reopen" and words[1] in self.sessions:
             self.reopen(words[1])
+        elif len(words) == 2 and words[0] == "dead" and words[1] in self.sessions:
+            self.dead(words[1])
         elif (
             len(words) == 3
             and words[0] == "feed"
@@ -272,7 +280,7 @@ class Serve:
     def refuse_unless_open(self, changes: Sequence[Change]) -> None:
         touched = {change.switch for change in changes}
         for name in self.switches:
-            if name in touched and self.sessions[name].state != OPEN:
+            if name in touched and self.sessions[name].state not in (OPEN, DEAD):
                 raise No(f"no open {name}")
 
     def send_round(self, way: str, changes: Sequence[Change]) -> None:
@@ -293,10 +301,28 @@ class Serve:
         return self.last_xid
 
     def settle_if_answered(self) -> None:
-        if self.sending and not self.sending.unanswered:
+        if self.sending and all(self.sessions[name].state == DEAD for name in self.sending.unanswered):
+            self.log_dead(self.sending.way)
             self.settled += self.sending.way == FORWARD
             self.sending = None
             self.log("settle")
+
+    def log_dead(self, way: str) -> None:
+        """The changes at dead switches are as those of the others."""
+        own = {number for number, change in enumerate(self.running()) if self.sessions[change.switch].state == DEAD}
+        if way == FORWARD:
+            for number in sorted(own - self.in_force):
+                self.log(f"change {number}")
+            self.in_force |= own
+        else:
+            for number in sorted(own & self.in_force, reverse=True):
+                self.log(f"undo {number}")
+            self.in_force -= own
+
+    def table_now(self) -> dict[Any, Any]:
+        """The tables that the events so far give."""
+        in_force = [self.running()[number] for number in sorted(self.in_force)] if self.sending else []
+        return after(in_force, self.tables[self.settled])
 
     def answered(self, name: str, way: str) -> None:
         """A switch has answered the barrier request of one way of the running round."""
@@ -319,9 +345,14 @@ class Serve:
         self.sessions[name] = Session()
         self.send(name, HELLO_BYTES)
 
+    def dead(self, name: str) -> None:
+        if self.sessions[name].state != DEAD:
+            self.sessions[name] = Session(DEAD)
+            self.settle_if_answered()
+
     def feed(self, name: str, piece: bytes) -> None:
         session = self.sessions[name]
-        if session.state == FAILED:
+        if session.state in (FAILED, DEAD):
             return
         session.unread += piece
         while session.state != FAILED and len(session.unread) >= 8:

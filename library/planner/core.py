@@ -31,8 +31,8 @@ class Message:
 @dataclasses.dataclass(frozen=True)
 class Event:
     """What happened. The kinds are `started`, `turned`, `changed`, `undone`, `settled`, `taken back` and `failed`. A
-    change that its switch has answered for has the switch, what it does, and its rule; a failed session the switch and
-    the cause."""
+    change that its switch has answered for, or that counts as made since its switch is dead, has the switch, what it
+    does, and its rule; a failed session the switch and the cause."""
 
     kind: str
     round: int
@@ -173,6 +173,7 @@ class Core:
         self.rest: dict[str, bytes] = {}         # by switch: the beginning of a message
         self.open: set[str] = set()
         self.failed: dict[str, str] = {}         # by switch: the cause for which its session failed
+        self.dead: set[str] = set()      # the switches that no packet passes, and that no round waits for
         self.failures = 0                        # how many sessions have failed so far
         # by switch: the xids of the barrier requests on its session that aren't answered
         self.due: dict[str, list[int]] = {}
@@ -180,8 +181,8 @@ class Core:
         self.sent: dict[str, dict[int, bytes]] = {}
         # whether a round was started; how many were settled, and undone
         self.begun, self.carried_out, self.undone = False, 0, 0
-        # of each round that is settled or runs the changes in force, in their order
-        self.history: list[list[int]] = []
+        # of each round that is settled or runs what happened, as in a schedule
+        self.history: list[list[str]] = []
 
     def number(self) -> int:
         """The number of the running round, or of the one that was settled last."""
@@ -201,7 +202,8 @@ class Core:
         for one in messages:
             is_good = is_header(one[:8])
             # by a bad header the session fails
-            yield one if is_good else one[:PIECE], not is_good or self.is_fed(switch, one)
+            is_fed = switch not in self.dead and (not is_good or self.is_fed(switch, one))
+            yield one[:PIECE] if is_fed and not is_good else one, is_fed
 
     def is_fed(self, switch: str, message: bytes) -> bool:
         if switch not in self.open:
@@ -213,6 +215,11 @@ class Core:
         self.rest.pop(switch, None)
         return f"reopen {named(switch)}"
 
+    def die(self, switch: str) -> str:
+        """The line by which a switch is dead."""
+        self.rest.pop(switch, None)
+        return f"dead {named(switch)}"
+
     # ---- what is answered
 
     def take(self, line: str, block: list[str]) -> Reply:
@@ -223,6 +230,8 @@ class Core:
         words = line.split(" ")
         round_ = self.settled + (self.is_running or words[0] == "start")
         was_turned = words[0] == "back" and self.is_running
+        if was_turned:
+            self.history[-1].append("back")      # its block has no event
         self.take_line(words)
         messages: list[Message] = []
         events = [Event("turned", round_)] if was_turned else []
@@ -237,11 +246,12 @@ class Core:
         if words[0] in ("start", "back"):
             self.sent = {}
             self.is_back = words[0] == "back"
-        elif words[0] == "reopen":
+        elif words[0] in ("reopen", "dead"):
             self.open.discard(words[1])
             self.failed.pop(words[1], None)
             self.due[words[1]] = []
-        elif words[0] == "feed" and words[1] not in self.failed:
+            (self.dead.add if words[0] == "dead" else self.dead.discard)(words[1])
+        elif words[0] == "feed" and words[1] not in self.failed and words[1] not in self.dead:
             self.take_message(words[1], bytes.fromhex(words[2]))
 
     def take_message(self, switch: str, message: bytes) -> None:
@@ -279,31 +289,21 @@ class Core:
             self.sent.setdefault(switch, {})[xid_of(message)] = message
 
     def note_event(self, words: list[str]) -> None:
-        """Notes what of each round is in force."""
+        """Notes what happened to each round."""
         if words[0] == "start":
             self.begun = True
-            self.history.append([])
-        elif words[0] == "change":
-            self.history[-1].append(int(words[1]))
-        elif words[0] == "undo":
-            self.history[-1].remove(int(words[1]))
+            self.history.append(["start"])
         elif words[0] == "settle" and self.is_back:
             self.history.pop()
             self.undone += 1
-        elif words[0] == "settle":
-            self.carried_out += 1
+        elif words[0] in ("change", "undo", "back", "settle"):
+            self.history[-1].append(" ".join(words))
+            self.carried_out += words[0] == "settle"
 
     def schedule(self) -> str:
-        """The events that lead to the present state, as a schedule. Of a round that is being undone it has no change,
-        so each of them is pending."""
-        lines: list[str] = []
-        for number, changes in enumerate(self.history, 1):
-            is_settled = number <= self.settled
-            lines += [
-                "start", *(f"change {one}" for one in changes if is_settled or not self.is_back),
-                *(["settle"] if is_settled else []),
-            ]
-        return "".join(f"{line}\n" for line in lines)
+        """The events that lead to the present state, as a schedule of `planner tables`. Rounds that were undone aren't
+        in it."""
+        return "".join(f"{line}\n" for lines in self.history for line in lines)
 
     def step(self, messages: list[Message], events: list[Event], others: list[Message]) -> Step:
         return Step(

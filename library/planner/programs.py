@@ -1,6 +1,7 @@
 """Where the proved program and its front end are, and the files that they are given."""
 from __future__ import annotations
 
+import functools
 import json
 import os
 import pathlib
@@ -28,16 +29,44 @@ def home() -> pathlib.Path | None:
 
 
 def program() -> str:
-    """The path of the proved program: what the variable PLANNER names, otherwise the one that was built or installed.
-    Nothing is built."""
+    """The path of the proved program: what the variable PLANNER names, otherwise that of dist/ where it is the one of
+    the checkout's sources, the one that was built there, or the installed one. Nothing is built."""
     at = home()
     named = os.environ.get("PLANNER")
     if named and (at is None or pathlib.Path(named).resolve() != at / "planner"):
         return named
-    for one in (at / "crates/planner_cli/out/planner_cli", at / "planner_cli") if at is not None else ():
+    for one in places(at) if at is not None else ():
         if os.access(one, os.X_OK):
             return str(one)
-    raise NoProgram("the program `planner` isn't there: install it, or name it by the variable PLANNER")
+    raise NoProgram(
+        "the program `planner` isn't there: install it, build it by `./planner` in its checkout, or name it by the"
+        " variable PLANNER"
+    )
+
+
+def places(at: pathlib.Path) -> list[pathlib.Path]:
+    """Where the program may be in the folder of the front end, which says whether that of dist/ is to be run."""
+    if not (at / "crates").is_dir():
+        return [at / "planner_cli"]
+    built = at / "crates/planner_cli/out/planner_cli"
+    return [built] if why_not_shipped(at) else [at / "dist/planner_cli", built]
+
+
+@functools.lru_cache(maxsize=None)
+def why_not_shipped(at: pathlib.Path) -> str | None:
+    """Why the program of dist/ isn't to be run, or None. It is asked once, and it is the front end that says it: its
+    module needs no other."""
+    import importlib.util
+    found = importlib.util.spec_from_file_location("planner_shipped", at / "planner_tools" / "shipped.py")
+    if found is None or found.loader is None:
+        return "the front end has no module that says it"
+    module = importlib.util.module_from_spec(found)
+    try:
+        found.loader.exec_module(module)
+        why: str | None = module.why_not(str(at))
+    except OSError as fault:
+        why = str(fault)
+    return why
 
 
 def path() -> str:

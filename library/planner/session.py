@@ -90,6 +90,11 @@ class Update:
         return dict(self.core.failed)
 
     @property
+    def gone(self) -> frozenset[str]:
+        """The switches that are dead."""
+        return frozenset(self.core.dead)
+
+    @property
     def owing(self) -> frozenset[str]:
         """The switches that hold up the running round."""
         return frozenset(self.core.owing())
@@ -187,9 +192,16 @@ class Session(Update):
 
     def reopen(self, switch: str) -> Step:
         """There is a new session with the switch: what was sent to it before and isn't carried out by now never will
-        be, and it has kept its table."""
+        be, and it has kept its table; of a dead one: it has now the table that `planner tables` gives for the schedule
+        so far."""
         with self.lock:
             return self._do(self._line(self.core.reopen(switch)))
+
+    def dead(self, switch: str) -> Step:
+        """No packet passes this switch any more, and none will before it is said to be open anew. No round waits for
+        it."""
+        with self.lock:
+            return self._do(self._line(self.core.die(switch)))
 
     def replies(self, lines: Sequence[str]) -> Iterator[Reply]:
         """Gives lines of a record that whoever calls keeps himself, all of them together, and yields what is answered

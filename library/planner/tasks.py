@@ -4,7 +4,7 @@ from __future__ import annotations
 import asyncio
 import os
 import subprocess
-from typing import Any, Optional
+from typing import Any, Callable, Optional
 
 from planner.core import ServeEnded, Step, end_of
 from planner.programs import File, path
@@ -56,10 +56,15 @@ class AsyncSession(Update):
 
     async def reopen(self, switch: str) -> Step:
         """As `Session.reopen`."""
-        return await self._do(self._reopen(switch))
+        return await self._do(self._made(self.core.reopen, switch))
 
-    def _reopen(self, switch: str) -> Lines:
-        return (yield from self._line(self.core.reopen(switch)))
+    async def dead(self, switch: str) -> Step:
+        """As `Session.dead`."""
+        return await self._do(self._made(self.core.die, switch))
+
+    def _made(self, line: Callable[[str], str], switch: str) -> Lines:
+        """A line that is made when its turn has come."""
+        return (yield from self._line(line(switch)))
 
     async def close(self) -> None:
         """As `Session.close`."""

@@ -97,7 +97,9 @@ class Controllers(unittest.TestCase):
         self.assertEqual(1, status)
         self.assertIn("s3 closed its connection", said)
 
-    def test_os_ken_app_goes_from_target_to_target(self):
+    def os_ken(self, wait, words, count):
+        """The switches of an application that leads them from target to target, when it has said the words so often;
+        and the file of what it says."""
         if not has_os_ken():
             self.skipTest("os_ken isn't installed (Debian: python3-os-ken)")
         folder = pathlib.Path(tempfile.mkdtemp(prefix="controller-test-"))
@@ -105,33 +107,50 @@ class Controllers(unittest.TestCase):
         square = EXAMPLES / "square"
         with fake_switch.socket.create_server(("127.0.0.1", 0)) as free:
             address = free.getsockname()
+        (folder / "policy.json").write_text('{"demands": []}')    # so pack warns of packets
         job = {
-            "topology": str(square / "topology.json"), "policy": str(square / "policy.json"),
-            "old": str(square / "old.json"), "wait": 0.05,
+            "topology": str(square / "topology.json"), "policy": str(folder / "policy.json"),
+            "old": str(square / "old.json"), "wait": wait,
             "targets": [str(square / "new.json"), str(square / "old.json"), str(square / "new.json")],
             "datapaths": {f"{datapath:016x}": name for name, datapath in DATAPATHS["square"].items()},
         }
         (folder / "job.json").write_text(json.dumps(job))
         switches = self.switches("square", address)
-        words = [
+        command = [
             sys.executable, "-m", "os_ken.cmd.manager", "--ofp-listen-host", address[0], "--ofp-tcp-listen-port",
             str(address[1]), str(CONTROLLERS / "os_ken_app.py"),
         ]
         with open(folder / "said", "wb") as said:
             run = subprocess.Popen(
-                words, stdout=said, stderr=said, env={**SITUATION, "PLANNER_JOB": str(folder / "job.json")}
+                command, stdout=said, stderr=said, env={**SITUATION, "PLANNER_JOB": str(folder / "job.json")}
             )
         self.addCleanup(lambda: (run.kill(), run.wait()))
         until = time.monotonic() + LONGEST
         while (
             time.monotonic() < until
             and run.poll() is None
-            and (folder / "said").read_text().count("the switches have the tables of ") < 3
+            and (folder / "said").read_text().count(words) < count
         ):
             time.sleep(0.05)
-        text = (folder / "said").read_text()
+        return switches, folder / "said", address
+
+    def test_os_ken_app_goes_from_target_to_target(self):
+        switches, said, _ = self.os_ken(0.05, "the switches have the tables of ", 3)
+        text = said.read_text()
         self.assertEqual(3, text.count("the switches have the tables of "), text)
-        self.assertTrue(has(switches, "square", square / "new.json"), text)
+        self.assertTrue(has(switches, "square", EXAMPLES / "square" / "new.json"), text)
+        self.assertEqual(3, text.count("leave the network though no demand covers them"), text)
+
+    def test_os_ken_app_sends_nothing_to_a_switch_that_came_back(self):
+        """Between two rounds a switch is started anew, with an empty table."""
+        switches, said, address = self.os_ken(2.5, "settled round 1", 1)
+        switches["s3"].stop()
+        anew = fake_switch.FakeSwitch(DATAPATHS["square"]["s3"], address)
+        anew.start()
+        self.addCleanup(anew.stop)
+        time.sleep(5)
+        self.assertEqual((0, {}), (anew.flow_messages, anew.table), said.read_text())
+        self.assertNotIn("the switches have the tables of ", said.read_text())
 
 
 if __name__ == "__main__":

@@ -20,6 +20,8 @@ from planner_tools import program  # noqa: E402
 SQUARE = ROOT / "examples" / "square"
 FILES = [SQUARE / f"{name}.json" for name in ("topology", "old", "new", "policy", "plan")]
 RULE = {"switch": "s1", "priority": 10, "dst": "10.0.0.0/8", "out": 1}
+# The schedule of a round that was settled and is being undone.
+TURNED = "start\nchange 0\nsettle\nback\n"
 
 
 def message(kind, xid, body=b""):
@@ -44,17 +46,17 @@ class Cores(unittest.TestCase):
                 (False, False, 1, set(), "start\nchange 0\nsettle\n"), ["changed", "settled"],
             ),
             (
-                "back", ["back", f"send s1 {request.hex()}", "ok running 1 of 2"], (True, True, 0, {"s1"}, "start\n"),
+                "back", ["back", f"send s1 {request.hex()}", "ok running 1 of 2"], (True, True, 0, {"s1"}, TURNED),
                 ["turned"],
             ),
             (
                 "feed s1 0100000c000000020003", ["failed s1 Error 3 0", "ok running 1 of 2"],
-                (True, True, 0, {"s1"}, "start\n"), ["failed"],
+                (True, True, 0, {"s1"}, TURNED), ["failed"],
             ),
-            ("reopen s1", [f"send s1 {hello}", "ok running 1 of 2"], (True, True, 0, set(), "start\n"), []),
+            ("reopen s1", [f"send s1 {hello}", "ok running 1 of 2"], (True, True, 0, set(), TURNED), []),
             (
-                f"feed s1 {hello}", [f"send s1 {request.hex()}", "ok running 1 of 2"],
-                (True, True, 0, {"s1"}, "start\n"), [],
+                f"feed s1 {hello}", [f"send s1 {request.hex()}", "ok running 1 of 2"], (True, True, 0, {"s1"}, TURNED),
+                [],
             ),
             (
                 f"feed s1 {reply}", ["undo 0", "settle", "ok settled 0 of 2"], (False, True, 0, set(), ""),
@@ -75,6 +77,53 @@ class Cores(unittest.TestCase):
                 )
                 self.assertEqual(expected, (core.is_running, core.is_back, core.settled, core.owing(), core.schedule()))
         self.assertEqual((1, 1, {"s1"}, 1), (core.carried_out, core.undone, core.open, core.failures))
+
+    def test_a_dead_switch_owes_nothing_and_is_fed_nothing(self):
+        other = {**RULE, "switch": "s2"}
+        core = cores.Core([[("insert", RULE), ("delete", other)]])
+        hello = planner.HELLO.hex()
+        sends = [
+            f"send {name} {message(kind, xid, bytes(length)).hex()}"
+            for name, kind, xid, length in (
+                ("s1", cores.TYPE_FLOW_MOD, 1, 64), ("s2", cores.TYPE_FLOW_MOD, 2, 64),
+                ("s1", cores.TYPE_BARRIER_REQUEST, 3, 0), ("s2", cores.TYPE_BARRIER_REQUEST, 4, 0),
+            )
+        ]
+        reply = message(cores.TYPE_BARRIER_REPLY, 3)
+        for line, block, dead, owing, kinds in (
+            (f"feed s1 {hello}", ["ok settled 0 of 1"], set(), set(), []),
+            (f"feed s2 {hello}", ["ok settled 0 of 1"], set(), set(), []),
+            ("start", ["start", *sends, "ok running 1 of 1"], set(), {"s1", "s2"}, [("started", None)]),
+            ("dead s2", ["ok running 1 of 1"], {"s2"}, {"s1"}, []),
+            (
+                f"feed s1 {reply.hex()}", ["change 0", "change 1", "settle", "ok settled 1 of 1"], {"s2"}, set(),
+                [("changed", "s1"), ("changed", "s2"), ("settled", None)],
+            ),
+            ("reopen s2", [f"send s2 {hello}", "ok settled 1 of 1"], set(), set(), []),
+        ):
+            with self.subTest(line):
+                answer = core.take(line, block)
+                self.assertEqual(kinds, [(one.kind, one.switch) for one in answer.events])
+                self.assertEqual((dead, owing), (core.dead, core.owing()))
+        self.assertEqual({"s1"}, core.open)
+        self.assertEqual("start\nchange 0\nchange 1\nsettle\n", core.schedule())
+
+    def test_what_comes_from_a_dead_switch_is_handed_on(self):
+        core = cores.Core([[("insert", RULE)]])
+        core.take("dead s1", ["ok settled 0 of 1"])
+        bad = bytes([4, 5, 0, 8]) + bytes(4)
+        data = planner.HELLO + message(10, 7, bytes(12)) + bad
+        self.assertEqual(
+            [(planner.HELLO, False), (message(10, 7, bytes(12)), False), (bad, False)], list(core.pieces("s1", data))
+        )
+        self.assertEqual([(planner.HELLO, True)], list(core.pieces("s2", planner.HELLO)))
+
+    def test_a_failed_session_of_a_dead_switch_counts_no_more(self):
+        core = cores.Core([[("insert", RULE)]])
+        core.take("feed s1 0100000c000000020003", ["failed s1 NoHello", "ok settled 0 of 1"])
+        self.assertEqual({"s1"}, core.owing())
+        core.take("dead s1", ["ok settled 0 of 1"])
+        self.assertEqual(({}, set(), {"s1"}), (core.failed, core.owing(), core.dead))
 
     def test_the_messages_of_the_running_round_are_known_by_their_xids(self):
         core = cores.Core([[("insert", RULE)]])
@@ -132,7 +181,7 @@ class OwnRecords(unittest.TestCase):
         self.assertEqual([True] * 5 + [False, False, True], [one.is_taken for one in replies])
         self.assertEqual(["no running", "bad line"], [one.last for one in replies[5:7]])
         self.assertEqual([one.switch for reply in replies for one in reply.messages], sent)
-        self.assertEqual((True, "start\n"), (session.is_running, session.schedule()))
+        self.assertEqual((True, "start\nback\n"), (session.is_running, session.schedule()))
         self.assertTrue(calls)
 
     def test_replies_that_are_not_all_taken_end_the_session(self):

@@ -147,6 +147,86 @@ class Sessions(unittest.TestCase):
         self.assertEqual(sent, step.messages)
         self.assertEqual(["changed", "settled"], [one.kind for one in session.feed("s1", reply(sent[-1].data)).events])
 
+    def round_without(self, session, name):
+        """Begins a round, of which all switches but this one answer. What it was sent, and the events."""
+        step, events = session.start(), []
+        events += step.events
+        for one in step.messages:
+            if one.switch != name and reply(one.data):
+                events += session.feed(one.switch, reply(one.data)).events
+        return [one for one in step.messages if one.switch == name], events
+
+    def numbers(self, folder, round_, name):
+        """The numbers of a round's changes at a switch."""
+        plan = json.loads((folder / "plan.json").read_text())
+        return [at for at, (_, rule) in enumerate(plan["rounds"][round_ - 1]) if plan["rules"][rule]["switch"] == name]
+
+    def test_a_round_is_settled_without_a_dead_switch_that_was_the_last_one(self):
+        session = self.open(DETOUR)
+        sent, _ = self.round_without(session, "w")
+        self.assertEqual((True, frozenset(["w"])), (session.is_running, session.owing))
+        step = session.dead("w")
+        changed = [(one.kind, one.switch, one.change) for one in step.events[:-1]]
+        self.assertEqual([("changed", "w", one) for one in self.numbers(DETOUR, 1, "w")], changed)
+        self.assertEqual(
+            ("settled", 1, False, ()), (step.events[-1].kind, step.settled, step.is_running, step.messages)
+        )
+        self.assertEqual((frozenset(["w"]), frozenset()), (session.gone, session.owing))
+        # of the round that was settled without it it gets nothing
+        self.assertEqual([planner.HELLO], [one.data for one in session.reopen("w").messages])
+        self.assertEqual((), session.feed("w", planner.HELLO).messages)
+        self.assertEqual(frozenset(), session.gone)
+        self.assertTrue(sent)
+
+    def test_a_dead_switch_that_is_there_again_is_sent_the_running_round(self):
+        for is_back in (False, True):
+            with self.subTest(is_back=is_back):
+                session = self.open(DETOUR)
+                first = session.start()
+                sent = [one for one in first.messages if one.switch == "w"]
+                self.assertEqual((), session.dead("w").events)
+                if is_back:
+                    turned = session.back()
+                    self.assertFalse([one for one in turned.messages if one.switch == "w"])
+                self.assertEqual(((), ()), (session.dead("w").events, session.dead("w").messages))
+                session.reopen("w")
+                again = session.feed("w", planner.HELLO).messages
+                if is_back:
+                    xids = [one.data[4:8] for step in (first, turned) for one in step.messages]
+                    self.assertEqual((len(sent), []), (len(again), [one for one in again if one.data[4:8] in xids]))
+                else:
+                    self.assertEqual(tuple(sent), again)
+                self.assertEqual(frozenset(["w"]), session.owing & {"w"})
+
+    def test_a_round_of_dead_switches_alone_is_settled_as_it_begins(self):
+        session = self.open(SQUARE)
+        session.dead("s1")
+        step = session.start()
+        self.assertEqual(["started", "changed", "settled"], [one.kind for one in step.events])
+        self.assertEqual(((), 1), (step.messages, step.settled))
+        step = session.back()
+        self.assertEqual(["turned", "undone", "taken back"], [one.kind for one in step.events])
+        self.assertEqual(((), 0), (step.messages, step.settled))
+
+    def test_of_a_dead_switch_nothing_is_given(self):
+        session = self.open(SQUARE)
+        session.dead("s1")
+        step = session.feed("s1", planner.HELLO + bytes([1, 2, 0, 8, 0, 0, 0, 0]))
+        self.assertEqual(((), 2), (step.messages, len(step.others)))
+        self.assertEqual((), session.feed("s1", bytes([4, 5, 0, 8, 0, 0, 0, 0])).events)
+        with self.assertRaises(ValueError):
+            session.dead("s9")
+        with self.assertRaises(ValueError):
+            session.dead("s 1")
+
+    def test_a_record_keeps_which_switches_are_dead(self):
+        with tempfile.TemporaryDirectory() as folder:
+            record = os.path.join(folder, "record")
+            with planner.Session(*files(SQUARE), record=record) as session:
+                session.dead("s1")
+            with planner.Session(*files(SQUARE), record=record, resume=True) as session:
+                self.assertEqual(frozenset(["s1"]), session.gone)
+
     def test_what_comes_before_hello_fails_the_session(self):
         with planner.Session(*files(SQUARE)) as session:
             self.assertEqual("NoHello", session.feed("s1", bytes([1, 10, 0, 8, 0, 0, 0, 0])).events[0].cause)
@@ -297,6 +377,13 @@ class AsyncSessions(unittest.IsolatedAsyncioTestCase):
         with self.assertRaises(planner.NotNow) as refused:
             await session.start()
         self.assertEqual(("running", ["s1", "s1"]), (refused.exception.why, sent))
+
+    async def test_a_switch_is_dead(self):
+        session = await self.opened(SQUARE)
+        await session.start()
+        step = await session.dead("s1")
+        self.assertEqual((["changed", "settled"], 1), ([one.kind for one in step.events], step.settled))
+        self.assertEqual(["s1"], [one.switch for one in (await session.reopen("s1")).messages])
 
     async def test_refusals_records_and_ends(self):
         with self.assertRaises(planner.Refused):

@@ -14,14 +14,13 @@ import argparse
 import json
 
 from planner_tools import network as nets
-from planner_tools import program
 from planner_tools.files import counted
 from planner_tools.intent.asking import asked, done, files_of, network_of, rules_of
 from planner_tools.intent.classes import (
     Beside, Paths, grouped, joined, prefixes, range_words, ranges, shortened, vlan_value, vlan_words,
 )
 from planner_tools.intent.lookup import Tables
-from planner_tools.proved import Given, Unable
+from planner_tools.proved import Given, Unable, answer_beside
 
 TYPE_CHECKING = False
 if TYPE_CHECKING:
@@ -317,7 +316,7 @@ def difference(files: dict[str, Given], ask: Callable[..., Any] = asked) -> Diff
 
 def asked_silently(command: str, good: tuple[int, int], **files: Given) -> str:
     """What the program writes. Nothing is said of another status."""
-    status, text = program.run(command, *(file.real for file in files.values()))
+    status, text = answer_beside(command, *(file.real for file in files.values()))
     if status not in good:
         raise Unable(None, status)
     return text

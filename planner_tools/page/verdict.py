@@ -61,7 +61,7 @@ def verdict_of_configuration(planner: str, files: Sequence[str]) -> dict[str, An
 def driven(planner: str, update: Sequence[str], record: str) -> str:
     """Returns the events of the record of an update, as a schedule."""
     with open(record, "rb") as file:
-        if any(line.startswith((b"back", b"reopen ")) for line in file):
+        if any(line.startswith((b"back", b"reopen ", b"dead ")) for line in file):
             return served(planner, update, record)
     status, lines = ask(planner, "drive", *update, record)
     if status != YES:

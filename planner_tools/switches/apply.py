@@ -2,7 +2,7 @@
 carries bytes.
 
     planner apply TOPOLOGY OLD NEW POLICY PLAN INPUT --switches FILE [--listen HOST:PORT] [--wait SECONDS | --ask] [--patience SECONDS]
-                  [--resume] [--back] [--recover] [--repair] [--take-over] [--no-mark] [--strict] [--quiet]
+                  [--resume] [--back] [--without SWITCH].. [--recover] [--repair [SWITCH]].. [--take-over] [--no-mark] [--strict] [--quiet]
 
 FILE and --listen are those of `planner collect`. INPUT is the record of the update, a new file. `planner serve` stays beside this script for the whole run: it
 is given a line for each round that begins, for what the switches send, and for each session that is opened anew, and what it answers is sent. Each line is
@@ -18,6 +18,9 @@ and how far the update came.
                         the update: a controller that had put it is to stop
     --back              go on with it backwards: turn the round that runs, and undo those that are settled, one by one, up to OLD. Any update can be turned
                         back, also one that is done, after a failed session, and in the middle of a round; --resume then carries it out once more
+    --without SWITCH    go on, or back, or begin, without a switch that is gone: no packet passes it any more. It is waited for no more, and not compared.
+                        The record keeps that, until
+    --repair SWITCH     the switch is there again, and no packet has passed it: give it the table that it must have by now. Then it takes part again
     --repair            where a switch doesn't have what it must have, give it that, by messages of `planner emit`, in place of stopping
     --take-over         take away the marks of other updates from the switches, once it is known that this one can go on: their controllers are to stop
     --no-mark           put no mark on the switches: another controller isn't told of this update, and its mark isn't minded
@@ -39,13 +42,13 @@ import re
 import shlex
 import sys
 import time
-from typing import Sequence
+from typing import Collection, Sequence
 
 from planner.core import Core
 from planner_tools import events, program
 from planner_tools.proved import How, look
 from planner_tools.switches import ends, under_way
-from planner_tools.switches.comparison import Comparison
+from planner_tools.switches.comparison import Comparison, entries
 from planner_tools.switches.connections import Connection, Stop, host_and_port, lock, progress, read_switches, say
 from planner_tools.switches.conversation import Conversation
 from planner_tools.switches.failures import files_of
@@ -57,9 +60,13 @@ from planner_tools.voice import TELLING
 # The exit status where warnings end it.
 WARNED = 3
 # The words by which a record is gone on with, as they stand in what is next; they take the place of those that were
-# given.
-MODE_WORDS = ("--resume", "--back", "--recover", "--repair", "--take-over")
-MODES = re.compile(r"--(?:resume|back)(?: --(?:repair|take-over|recover|no-mark))*")
+# given. Behind those that name a switch its name stands in the same word.
+MODE_WORDS = ("--resume", "--back", "--recover", "--repair=", "--take-over")
+NAMING = ("--repair", "--without")
+NAME = r"[A-Za-z0-9_][A-Za-z0-9_-]{0,31}"
+MODES = re.compile(
+    rf"--(?:resume|back)(?: --(?:(?:repair|without) {NAME}|repair|take-over|recover|no-mark)(?![A-Za-z0-9_-]))*"
+)
 
 
 class Update:
@@ -69,6 +76,7 @@ class Update:
     def __init__(self, options: argparse.Namespace) -> None:
         self.options = options
         listed = read_switches(options.switches, options.topology)
+        see_that_they_are_listed(options, listed)
         self.lock = lock(options.switches)
         sums = [hashlib.sha256(pathlib.Path(one).read_bytes()).hexdigest() for one in files_of(options)]
         self.record = Record(options.input, options.resume, f"files {' '.join(one[:16] for one in sums)}")
@@ -90,6 +98,7 @@ class Update:
         begun = time.monotonic()
         self.conversation.open_session()
         progress(f"the plan is accepted; {self.conversation.state()}")
+        self.leave_out()
         if self.options.back and self.core.is_running and not self.core.is_back:
             self.turn()
         self.conversation.connect()
@@ -113,6 +122,9 @@ class Update:
         """All is done: compares the tables with those that are wanted, and takes the marks away."""
         wanted = self.options.old if self.options.back else self.options.new
         self.comparison.compare()
+        while self.core.dead - self.conversation.absent:
+            self.conversation.pump()         # they take part again when their connection has stood
+            self.comparison.compare_suspects()
         self.comparison.compare_as_configuration("after", wanted)
         self.marking.take_away()
         # a switch whose connection was lost meanwhile is looked at again
@@ -121,8 +133,23 @@ class Update:
         self.comparison.compare_suspects()
         self.record.keep()
         progress(
-            f"done: {self.what_is_done()}, and the switches have the tables of {wanted};"
-            f" {time.monotonic() - begun:.1f} s; the record is {self.options.input}"
+            f"done: {self.what_is_done()}, and the switches have the tables of"
+            f" {wanted}{self.comparison.but_the_absent()}; {time.monotonic() - begun:.1f} s; the record is"
+            f" {self.options.input}{self.for_the_absent(wanted)}"
+        )
+
+    def for_the_absent(self, wanted: str) -> str:
+        """What the switches that are gone have to be given, and how."""
+        names = sorted(self.conversation.absent)
+        if not names:
+            return ""
+        each = ", ".join(f"{name} the {entries(self.comparison.to_be_given(name))}" for name in names)
+        way = "--back" if self.options.back else "--resume"
+        then = way + "".join(f" --repair {name}" for name in names)
+        return (
+            f". Next: when {'it is' if len(names) == 1 else 'they are'} there again, and before a packet passes, give"
+            f" {each} that {wanted} has for {'it' if len(names) == 1 else 'them'}: {then} does"
+            f" so{typed(self.options.words, then, self.core.dead)}"
         )
 
     def what_is_done(self) -> str:
@@ -141,6 +168,16 @@ class Update:
         return self.core.is_running or (
             self.core.settled > 0 if self.options.back else self.core.settled < self.core.rounds
         )
+
+    def leave_out(self) -> None:
+        """Says of the switches that are gone that they are dead, where the record doesn't say it yet."""
+        for name in self.options.without:
+            if name not in self.core.dead:
+                words = f"{name} is gone, and is waited for no more: no packet may pass it before --repair {name}"
+                self.record.remark(words)
+                progress(words)
+                self.record.give(f"dead {name}")
+        self.conversation.follow()
 
     def turn(self) -> None:
         """Turns the running round. Its messages are sent when the switches are there: to each that has what it must
@@ -194,6 +231,16 @@ class Update:
         self.conversation.close()
 
 
+def see_that_they_are_listed(options: argparse.Namespace, names: Collection[str]) -> None:
+    """It is Stop where an option names what is no switch."""
+    for option, given in (("--without", options.without), ("--repair", options.repair)):
+        for name in given:
+            if name and name not in names:
+                raise Stop(
+                    f"{option} {name}: {options.topology} has no switch {name}", f"name one of {', '.join(names)}"
+                )
+
+
 def stopped(update: Update | None, options: argparse.Namespace, why: BaseException, words: Sequence[str]) -> None:
     """Says in one line why it stopped, how far it came, and what to do next."""
     is_begun = options.resume or update is not None and update.record.starts
@@ -210,7 +257,8 @@ def stopped(update: Update | None, options: argparse.Namespace, why: BaseExcepti
     then, far = other_ways(update, options, then), how_far(update, options)
     if update is not None:
         note_end(update, options, f"stopped: {what}; {far}. Next: {then}")
-    say(f"stopped: {what}; {far}. Next: {then}{typed(words, then)}")
+    dead = update.core.dead if update is not None and update.is_open() else set()
+    say(f"stopped: {what}; {far}. Next: {then}{typed(words, then, dead)}")
     events.tell("stopped", what=what, far=far, next=then)
 
 
@@ -234,13 +282,35 @@ def note_end(update: Update, options: argparse.Namespace, words: str) -> None:
         pass
 
 
-def typed(words: Sequence[str], then: str) -> str:
-    """The command that does what is next, as it can be typed, behind the words that say it."""
+def typed(words: Sequence[str], then: str, dead: Collection[str] = ()) -> str:
+    """The command that does what is next, as it can be typed, behind the words that say it. Of the switches that are
+    dead the record says so: the command may be typed when they are there again."""
     found = MODES.search(then)
     if not found:
         return ""
-    others = [word for word in words if word not in MODE_WORDS]
-    return f" (`{shlex.join([program.typed(), 'apply', *others, *found[0].split()])}`)"
+    mode = found[0].split()
+    others = [parted(word) for word in words if not word.startswith(MODE_WORDS)]
+    said = {*mode, *dead}
+    kept = [part for parts in others if parts[0] != "--without" or parts[1] not in said for part in parts]
+    return f" (`{shlex.join([program.typed(), 'apply', *kept, *mode])}`)"
+
+
+def parted(word: str) -> list[str]:
+    """An option and the name of a switch, which stand in one word, as two."""
+    option, sign, name = word.partition("=")
+    return [option, name] if sign and option in NAMING else [word]
+
+
+def with_names(words: Sequence[str]) -> list[str]:
+    """The words, where the name of a switch behind an option stands in the same word with it. So the name of a file
+    that stands behind `--repair` isn't taken for that of a switch."""
+    found: list[str] = []
+    for word in words:
+        if found and found[-1] in NAMING and re.fullmatch(NAME, word):
+            found[-1] += f"={word}"
+        else:
+            found.append(word)
+    return ["--repair=" if word == "--repair" else word for word in found]
 
 
 def other_ways(update: Update | None, options: argparse.Namespace, then: str) -> str:
@@ -271,8 +341,9 @@ def parser_of_words() -> argparse.ArgumentParser:
     add_pace(parser)
     parser.add_argument("--resume", action="store_true")
     parser.add_argument("--back", action="store_true")
+    parser.add_argument("--without", metavar="SWITCH", action="append", default=[])
     parser.add_argument("--recover", action="store_true")
-    parser.add_argument("--repair", action="store_true")
+    parser.add_argument("--repair", metavar="SWITCH", nargs="?", const="", action="append", default=[])
     parser.add_argument("--take-over", action="store_true")
     parser.add_argument("--no-mark", action="store_true")
     parser.add_argument("--strict", action="store_true")
@@ -296,7 +367,12 @@ def is_ended_by_warnings(options: argparse.Namespace, how: How) -> bool:
 
 def main(words: Sequence[str], how: How | None = None) -> int:
     """Does what the words say. `how` is that of a command that does this one as its last step."""
-    options = parser_of_words().parse_args(words)
+    words = with_names(words)
+    parser = parser_of_words()
+    options = parser.parse_args(words)
+    options.words = words
+    if set(options.without) & set(options.repair):
+        parser.error("--without and --repair of one switch: it is either gone or there again")
     options.resume = options.resume or options.back       # only what is begun can be turned
     TELLING.is_quiet = TELLING.is_quiet or options.quiet
     ends.heed_signals()

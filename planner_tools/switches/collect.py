@@ -33,7 +33,7 @@ from planner_tools.switches.marks import Mark
 
 TYPE_CHECKING = False
 if TYPE_CHECKING:
-    from typing import Sequence
+    from typing import Collection, Sequence
 
     from planner_tools.switches.connections import Connection
 
@@ -272,12 +272,13 @@ def entry_at(path: str, refusal: str) -> str | None:
     return None
 
 
-def read(options: argparse.Namespace) -> Tables:
-    """Reads the tables of all switches: `options` has the topology, the file of switches, where they connect to, and
-    the patience."""
+def read(options: argparse.Namespace, without: Collection[str] = ()) -> Tables:
+    """Reads the tables of all switches but some: `options` has the topology, the file of switches, where they connect
+    to, and the patience."""
     switches = None
     try:
         listed = read_switches(options.switches, options.topology)
+        listed = {name: one for name, one in listed.items() if name not in without}
         switches = Switches(listed, options.listen, options.patience)
         tables, until = Tables(list(listed)), time.monotonic() + options.patience
         while tables.missing():

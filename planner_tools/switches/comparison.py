@@ -2,11 +2,14 @@
 from __future__ import annotations
 
 import argparse
+import contextlib
 import json
 import struct
 import time
 from typing import Sequence
 
+from planner_tools.files import read_json
+from planner_tools.network import plain
 from planner_tools.proved import say_why
 from planner_tools.switches import under_way
 from planner_tools.switches.collect import entry_at
@@ -56,11 +59,11 @@ class Comparison:
 
     def differences(self, name: str) -> "list[Difference | MissingMark]":
         """What of a switch's answers isn't as it must be. Where it has the mark of another update it is Stop."""
-        core = self.conversation.core
+        # a dead switch must have what it must have when it is dead no more, and no change of the running round besides
+        is_decided = name in self.conversation.core.dead
         try:
             answers = self.conversation.tables.answers[name]
-            is_undone = core.is_running and core.is_back and name not in core.owing()
-            found: list[Difference | MissingMark] = [*self.must_have().differences(name, answers, is_undone)]
+            found: list[Difference | MissingMark] = [*self.must_have().differences(name, answers, is_decided)]
             marks = answers.marks()
         except (ValueError, struct.error):
             raise Stop(
@@ -71,15 +74,21 @@ class Comparison:
             found.append(MissingMark(name, self.marking.mark))
         return found
 
+    def may_repair(self, found: "Sequence[Difference | MissingMark]") -> bool:
+        """Whether these differences may be put right, by --repair: all, or those of some switches."""
+        return all({"", one.switch} & set(self.options.repair) for one in found)
+
     def can_go_on(self, found: "Sequence[Difference | MissingMark]") -> bool:
         """Whether the update can go on from these differences: there are none, or they are put right."""
-        return not found or self.options.repair and all(one.can_be_repaired() for one in found)
+        return not found or self.may_repair(found) and all(one.can_be_repaired() for one in found)
 
     def look_at_returned(self, connection: Connection) -> None:
         """A switch that has connected has answered the questions for its table. Where all switches are being read, it
         is compared with them."""
         if self.is_reading:
             return
+        if connection.name in self.conversation.core.dead:
+            self.conversation.follow()       # it must have what is to be there by all that came before
         if self.suspects or self.differences(connection.name):
             self.suspects.add(connection.name)
         else:
@@ -105,7 +114,7 @@ class Comparison:
                 self.compared_at = now_words()
                 return is_first
             self.tell_differences(found)
-            if not self.options.repair or tries == TRIES:
+            if not self.may_repair(found) or tries == TRIES:
                 raise self.differs(found)
             self.repair(found)
             is_first, tries = False, tries + 1
@@ -120,7 +129,7 @@ class Comparison:
         conversation = self.conversation
         # nothing is sent that changes a table meanwhile, so all answers are of the same state
         self.is_reading = True
-        for name in conversation.listed:
+        for name in conversation.names:
             conversation.tables.forget(name)
         for connection in list(conversation.named.values()):
             conversation.tables.ask(connection)
@@ -130,7 +139,7 @@ class Comparison:
             while not conversation.has_all():
                 conversation.pump()
             self.marking.foreign = {}
-            found = [one for name in conversation.listed for one in self.differences(name)]
+            found = [one for name in conversation.names for one in self.differences(name)]
         self.is_reading = False
         self.suspects.clear()
         return found
@@ -141,10 +150,12 @@ class Comparison:
         for one in found[:NOTED]:
             self.record.remark(str(one))
         since = f"since {self.compared_at}, when all was as it must be, " if self.compared_at else ""
-        say(
-            f"{since}packets that fit these entries may have been dropped, sent elsewhere or sent with another VLAN at"
-            f" {', '.join(sorted({one.switch for one in found}))}"
-        )
+        names = sorted({one.switch for one in found} - self.conversation.core.dead)
+        if names:
+            say(
+                f"{since}packets that fit these entries may have been dropped, sent elsewhere or sent with another VLAN"
+                f" at {', '.join(names)}"
+            )
 
     def differs(self, found: "Sequence[Difference | MissingMark]") -> Stop:
         names = sorted({one.switch for one in found})
@@ -157,17 +168,25 @@ class Comparison:
         if by_hand:
             return Stop(
                 f"{what}; {entries(len(by_hand))} of them no message of a plan can reach, as {by_hand[0]}",
-                "take these away at the switch by hand; then go on with --resume, or --resume --repair",
+                (
+                    f"take these away at the switch by hand; then go on with --resume{self.named_repairs()}, or"
+                    f" --resume --repair{self.named_repairs()}"
+                ),
             )
         if self.conversation.core.begun:
             return Stop(
                 what,
                 (
-                    "go on with --resume --repair, which sends what is missing and takes away what is too much; or put"
-                    " it right by hand, and go on with --resume"
+                    f"go on with --resume --repair{self.named_repairs()}, which sends what is missing and takes away"
+                    " what is too much; or put it right by hand, and go on with --resume"
                 ),
             )
         return Stop(f"{what}. So the switches don't have the tables of {self.options.old}", self.before_the_beginning())
+
+    def named_repairs(self) -> str:
+        """The dead switches that are put right by this run, as words behind others."""
+        dead = self.conversation.core.dead & set(self.options.repair)
+        return "".join(f" --repair {name}" for name in sorted(dead))
 
     def before_the_beginning(self) -> str:
         """What to do where the switches don't have OLD: the program says whether a plan can start from what they
@@ -236,7 +255,7 @@ class Comparison:
 
     def repairing_messages(self, path: str, others: Sequence[Difference]) -> dict[str, list[bytes]]:
         """By switch the messages of `planner emit` that put differences right. Its plan is written to a path."""
-        write(path, json.dumps(repair_plan(others)) + "\n")
+        write(path, json.dumps(repair_plan(others, self.conversation.core.dead)) + "\n")
         status, text = self.conversation.ask("emit", self.options.topology, path) if others else (0, "")
         if status != 0:
             raise Stop(
@@ -286,19 +305,40 @@ class Comparison:
                 f"change it at the switch, docs/FORMATS.md says what is wrong with it; then {next_step}",
             )
         write(config, text)
-        with temporary("plan", json.dumps(NO_ROUNDS).encode()) as name:
-            status, text = self.conversation.ask(
-                "check", self.options.topology, config, path, self.options.policy, name
-            )
-            if status != 0:
-                say_why("check", self.options.topology, config, path, self.options.policy, name)
+        status, text = self.check_tables(text, config, path)
         if status != 0:
             raise Stop(
                 f"the switches don't have the tables of {path}: {text.strip()}",
                 f"compare {config}, which has those that they have, with {path}",
             )
-        self.record.remark(f"the switches have the tables of {path}")
-        progress(f"the switches have the tables of {path}")
+        words = f"the switches have the tables of {path}{self.but_the_absent()}"
+        self.record.remark(words)
+        progress(words)
+
+    def check_tables(self, text: str, config: str, path: str) -> tuple[int, str]:
+        """Has the program compare the configuration in a file with that of a path. A switch that isn't spoken with
+        counts as having what it is to have."""
+        absent = self.conversation.absent
+        with contextlib.ExitStack() as files:
+            plan = files.enter_context(temporary("plan", json.dumps(NO_ROUNDS).encode()))
+            if absent:
+                wanted, had = plain(read_json(path).root)["rules"], json.loads(text)
+                had["rules"] += [rule for rule in wanted if rule["switch"] in absent]
+                config = files.enter_context(temporary("json", json.dumps(had).encode()))
+            words = ["check", self.options.topology, config, path, self.options.policy, plan]
+            status, text = self.conversation.ask(*words)
+            if status != 0:
+                say_why(*words)
+        return status, text
+
+    def but_the_absent(self) -> str:
+        """Which switches aren't spoken with, behind what is said of all."""
+        names = sorted(self.conversation.absent)
+        return f", but {', '.join(names)}, which {'is' if len(names) == 1 else 'are'} dead" if names else ""
+
+    def to_be_given(self, name: str) -> int:
+        """How many entries a switch must have by now."""
+        return len(self.must_have().rules.get(name, {}))
 
 
 class MissingMark:

@@ -255,9 +255,10 @@ class Switches:
 
     def __init__(
         self, listed: dict[str, tuple[int, tuple[str, int] | None]], listen: tuple[str, int] | None = None,
-        patience: float = 10.0,
+        patience: float = 10.0, gone: dict[int, str] | None = None,
     ) -> None:
         self.listed, self.patience = listed, patience
+        self.gone = gone or {}           # by their datapath ids the switches that aren't spoken with
         self.named: dict[str, Connection] = {}          # the connection of each switch that has one
         self.selector = selectors.DefaultSelector()
         self.due = {name: 0.0 for name, (_, address) in listed.items() if address is not None}
@@ -389,7 +390,16 @@ class Switches:
                 "correct the file of switches",
             )
         if name is None:
-            self.turn_away(one, f"has the datapath id {one.datapath:016x}, which is none of the file")
+            gone = self.gone.get(one.datapath or 0)
+            self.turn_away(
+                one,
+                (
+                    f"is {gone}, which is dead by the record: no packet may pass it before `--repair {gone}` has given"
+                    " it its table"
+                )
+                if gone
+                else f"has the datapath id {one.datapath:016x}, which is none of the file",
+            )
             return False
         if name in self.named:
             progress(f"{name} connects anew from {one.peer}; its older connection is closed")

@@ -68,6 +68,7 @@ class Conversation:
         self.switches: Switches | None = None            # made when `serve` has accepted the plan
         self.heard: list[Heard] = []     # what came while a program ran
         self.tables = Tables(list(listed))
+        self.absent: set[str] = set()    # the dead switches, with which this run doesn't speak
         # by switch: messages of these scripts that aren't answered, and the xid of the barrier request behind them
         self.owed: dict[str, tuple[bytes, int]] = {}
         self.program = ProgramPatience(options.patience)
@@ -78,6 +79,11 @@ class Conversation:
         """What `serve` has said."""
         assert self.session is not None
         return self.session.core
+
+    @property
+    def names(self) -> list[str]:
+        """The switches with which this run speaks."""
+        return [name for name in self.listed if name not in self.absent]
 
     @property
     def named(self) -> dict[str, Connection]:
@@ -147,11 +153,8 @@ class Conversation:
             for reply in self.replies(self.session, lines):
                 events.tell_events(reply.events)
                 self.send(reply.messages)
-                if reply.line in ("start", "back") and not reply.is_taken:
-                    raise Stop(
-                        f"`planner serve` answers `{reply.last}` to `{reply.line}`",
-                        "see what the record has; then go on with --resume",
-                    )
+                if not reply.is_taken:
+                    self.mind_refusal(reply)
         except (planner.Refused, planner.ServeEnded) as end:
             raise serve_ended(self.options, self.record, end) from None
         self.followed += 1
@@ -160,11 +163,24 @@ class Conversation:
         if core.failures > failures:
             raise session_failed(self.record, core, *list(core.failed.items())[-1])
 
+    def mind_refusal(self, reply: planner.Reply) -> None:
+        """It is Stop where `serve` didn't take a line that says how the update goes on."""
+        what = f"`planner serve` answers `{reply.last}` to `{reply.line}`"
+        if reply.line in ("start", "back"):
+            raise Stop(what, "see what the record has; then go on with --resume")
+        if reply.line.startswith("dead "):
+            raise Stop(what, "see that the program is as new as these scripts; then go on with --resume")
+
     # ---- the switches
 
     def connect(self) -> None:
-        """Makes connections, and takes them, from now on."""
-        self.switches = Switches(self.listed, self.options.listen, self.options.patience)
+        """Makes connections, and takes them, from now on: of the dead switches only with those that are put right."""
+        self.absent = self.core.dead - set(self.options.repair)
+        self.tables = Tables(self.names)
+        self.switches = Switches(
+            {name: self.listed[name] for name in self.names}, self.options.listen, self.options.patience,
+            {self.listed[name][0]: name for name in sorted(self.absent)},
+        )
 
     def send(self, messages: Sequence[planner.Message]) -> None:
         """Sends what `serve` says, to those whose connection is good. The others get it when theirs is, behind
@@ -202,7 +218,8 @@ class Conversation:
         ends.see_that_it_is_heard()
         self.ask_again()
         self.waiting.mind(
-            self.awaited(), min(self.options.wait, STANDS) if self.core.begun else 0, self.why_awaited, self.state
+            self.awaited(), min(self.options.wait, STANDS) if self.core.begun else 0, self.why_awaited, self.state,
+            self.core.dead,
         )
 
     def take(self, what: str, connection: Connection, message: bytes) -> None:
@@ -262,10 +279,13 @@ class Conversation:
         name = connection.name
         if self.named.get(name) is not connection or not self.stands(name):
             return               # it has connected anew while a program ran, and is asked first
-        is_anew = self.must_reopen(name)
+        is_anew, followed = self.must_reopen(name), self.followed
         if connection.is_good or is_anew and self.core.begun and not self.has_stood(connection):
             return
         self.follow()
+        if name in self.core.dead and self.followed != followed:
+            connection.is_asked_again = False        # a round may be settled without it: what it must have is another
+            return
         connection.is_good = True
         if is_anew:
             self.tell_reopened(name)
@@ -276,7 +296,11 @@ class Conversation:
         self.follow()
 
     def tell_reopened(self, name: str) -> None:
-        if self.core.is_running:
+        if name in self.core.dead:
+            words = f"{name} has what it must have, and is dead no more"
+            self.record.remark(words)
+            progress(words)
+        elif self.core.is_running:
             words = (
                 f"{name} has what it must have; its session is opened anew, and what it hasn't answered of"
                 f" {self.round_words()} is sent again"
@@ -299,9 +323,9 @@ class Conversation:
     # ---- how far it is
 
     def must_reopen(self, name: str) -> bool:
-        """Whether what was sent to a switch on its session is perhaps not carried out, and not answered: its next
-        connection is a new session."""
-        return name in self.unsure or name in self.core.owing()
+        """Whether what was sent to a switch on its session is perhaps not carried out, and not answered, or the switch
+        is dead: its next connection is a new session."""
+        return name in self.unsure or name in self.core.owing() or name in self.core.dead
 
     def has_stood(self, connection: Connection) -> bool:
         """Whether a connection has stood for a while since its switch answered on it. By then the switch has taken up
@@ -317,13 +341,13 @@ class Conversation:
 
     def has_all(self) -> bool:
         """Whether each switch stands, and nothing waits to be heard or answered."""
-        return not self.heard and not self.owed and all(self.stands(name) for name in self.listed)
+        return not self.heard and not self.owed and all(self.stands(name) for name in self.names)
 
     def awaited(self) -> list[str]:
         """The switches for which the update waits: they are away, or owe an answer."""
         away = {
             name
-            for name in self.listed
+            for name in self.names
             if name not in self.named or name not in self.core.open and not self.named[name].kept
         }
         return sorted(away | self.core.owing() | self.tables.missing() | set(self.owed))
@@ -352,6 +376,7 @@ class Conversation:
         words += (
             f", round {core.number()} is {'being undone' if core.is_back else 'running'}" if core.is_running else ""
         )
+        words += f", without {', '.join(sorted(core.dead))}" if core.dead else ""
         names = self.awaited() if self.switches is not None else []
         return words + (f", no answer yet from {', '.join(names)}" if names else "")
 

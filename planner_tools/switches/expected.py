@@ -11,7 +11,7 @@ from planner_tools.switches.marks import Mark
 
 TYPE_CHECKING = False
 if TYPE_CHECKING:
-    from typing import Any, Sequence
+    from typing import Any, Collection, Sequence
 
     from planner_tools.switches.connections import Connection
 
@@ -117,14 +117,16 @@ class Difference:
         return "insert" if self.there is None or self.odd else "replace", self.rule
 
 
-def repair_plan(found: Sequence[Difference]) -> dict[str, Any]:
+def repair_plan(found: Sequence[Difference], dead: Collection[str] = ()) -> dict[str, Any]:
     """A plan, for `planner emit`, that puts differences right, a change a round. Entries are put in from the greatest
     priority down, and then taken out from the least up. So at each moment each packet meets at the switch what it met
     since the difference came about, or what it must meet: no rule is in force before those above it, and none is laid
-    open that stood under one that goes later."""
+    open that stood under one that goes later. At dead switches, which no packet passes, entries are taken out first:
+    there may be no room for more."""
     wanted = sorted((one for one in found if one.rule is not None), key=lambda one: -one.key[0])
     other = sorted((one for one in found if one.rule is None), key=lambda one: one.key[0])
-    changes = [one.repair() for one in wanted + other]
+    first = [one for one in other if one.switch in dead]
+    changes = [one.repair() for one in [*first, *wanted, *(one for one in other if one.switch not in dead)]]
     return {
         "format": 2, "kind": "ordered", "rules": [rule for _, rule in changes],
         "rounds": [[[do, at]] for at, (do, _) in enumerate(changes)], "numberings": [], "befores": [], "uses": [],

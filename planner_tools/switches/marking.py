@@ -27,7 +27,7 @@ class Marking:
         """Puts the mark on every switch."""
         self.is_marked = self.record.is_marked = True
         self.record.remark(MARKED.strip())
-        for name in self.conversation.listed:
+        for name in self.conversation.names:
             self.put_at(name)
         self.conversation.pump_until_answered()
 
@@ -39,7 +39,7 @@ class Marking:
         if self.options.no_mark:
             return
         self.is_marked = False
-        for name in self.conversation.listed:
+        for name in self.conversation.names:
             self.conversation.say_to(name, self.mark.take_away(), MARK_BARRIER)
         self.conversation.pump_until_answered()
         if self.record.is_marked:

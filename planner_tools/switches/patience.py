@@ -60,9 +60,12 @@ class SwitchPatience:
         self.since: dict[str, float] = {}        # since when each switch is waited for
         self.told = time.monotonic()             # when that was said last
 
-    def mind(self, names: Collection[str], more: float, why: Callable[[str], str], state: Callable[[], str]) -> None:
+    def mind(
+        self, names: Collection[str], more: float, why: Callable[[str], str], state: Callable[[], str],
+        dead: Collection[str] = (),
+    ) -> None:
         """Ends where one of these switches is waited for longer than the patience and `more`: `why` says of it what it
-        owes. Tells the state meanwhile."""
+        owes. Tells the state meanwhile. Those that are dead are waited for since they are to take part again."""
         now = time.monotonic()
         self.since = {name: self.since.get(name, now) for name in names}
         if not names:
@@ -73,7 +76,15 @@ class SwitchPatience:
         if waited > self.seconds + more:
             raise Stop(
                 f"the patience of {self.seconds:g} s is at its end: {name} {why(name)}",
-                f"see that {name} is connected and answers; then go on with --resume",
+                (
+                    f"see that {name} is connected and answers; then go on with --resume --repair {name}. While it is"
+                    " gone --resume goes on without it"
+                )
+                if name in dead
+                else (
+                    f"see that {name} is connected and answers; then go on with --resume. Where it is gone, and no"
+                    f" packet passes it, --resume --without {name} goes on without it"
+                ),
             )
         if min(waited, now - self.told) > self.seconds / TOLD:
             self.told = now

@@ -242,7 +242,7 @@ class Record:
         words, feed = line.split(" "), FEED.fullmatch(line)
         if words[0] == "start":
             self.starts += 1
-        elif words[0] == "reopen":
+        elif words[0] in ("reopen", "dead"):
             self.opened.discard(words[1])
             self.errors.pop(words[1], None)
         elif feed:

@@ -192,13 +192,20 @@ def standing(rules: Sequence[dict[str, Any]], plan: dict[str, Any], there: dict[
 
 
 def standing_of(files: Sequence[str], tables: collect.Tables) -> Standing | None:
-    """Where the tables stand in the plan of five files; None where the files can't be read as such."""
+    """Where the tables stand in the plan of five files, by the switches that were asked; None where the files can't be
+    read as such."""
     topology, old, _, _, plan = files
     status, text = answer_for(REFUSALS, "upgrade", topology, plan)
     try:
-        return (
-            standing(plain(read_json(old).root)["rules"], json.loads(text), tables_of(tables)) if status == 0 else None
-        )
+        if status != 0:
+            return None
+        made = json.loads(text)
+        asked = [
+            [(do, at) for do, at in changes if made["rules"][at]["switch"] in tables.names]
+            for changes in made["rounds"]
+        ]
+        rules = [rule for rule in plain(read_json(old).root)["rules"] if rule["switch"] in tables.names]
+        return standing(rules, {**made, "rounds": asked}, tables_of(tables))
     except (NotJson, OSError, KeyError, ValueError, TypeError):
         return None
 
@@ -213,7 +220,7 @@ def recover(options: argparse.Namespace) -> None:
     files = [options.topology, options.old, options.new, options.policy, options.plan]
     held = lock(options.switches)
     try:
-        found = standing_of(files, collect.read(options))
+        found = standing_of(files, collect.read(options, options.without))
     finally:
         held.close()
     if found is None:
@@ -304,9 +311,9 @@ def find(folder: str, tables: collect.Tables, command: Callable[..., Any]) -> Fo
 
 def core_words(core: Core) -> str:
     words = f"{core.settled} of {core.rounds} rounds are settled"
-    return words + (
-        f", and round {core.number()} is {'being undone' if core.is_back else 'running'}" if core.is_running else ""
-    )
+    if core.is_running:
+        words += f", and round {core.number()} is {'being undone' if core.is_back else 'running'}"
+    return words + (f", without {', '.join(sorted(core.dead))}" if core.dead else "")
 
 
 def of_record(what: str, head: Head, command: Callable[..., Any]) -> Found:

@@ -21,8 +21,6 @@ BEGIN = {
 RUN = {
     "convert/from_ofctl.py": "says what `import` refuses by the lines of its own texts",
     "convert/to_ofctl.py": "asks `check` of the plan, only to say beside its scripts what that answers",
-    "intent/diff.py": "its summary is said beside a plan, over files of which the one function has said what is wrong",
-    "update/update.py": "asks what a plan of the other kind would cost, beside the plan that is carried out",
 }
 
 

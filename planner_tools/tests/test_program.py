@@ -121,6 +121,31 @@ class Trees(unittest.TestCase):
         self.write("crates/base/src/lib.rt", "base")
         self.assertEqual((0, "the shipped one says sample 4\n", ""), self.run_in_tree("sample", "4"))
 
+    def taken_by_the_library(self):
+        """The program that the library of the tree runs, from the root on; or what it says."""
+        shutil.copytree(
+            os.path.join(rows.ROOT, "library"), os.path.join(self.root, "library"), dirs_exist_ok=True,
+            ignore=shutil.ignore_patterns("tests", "__pycache__"),
+        )
+        done = subprocess.run(
+            [sys.executable, "-c", "import planner.programs; print(planner.programs.path())"], cwd=FOLDER,
+            capture_output=True, text=True, timeout=rows.SECONDS, check=False,
+            env={"PYTHONPATH": os.path.join(self.root, "library"), "PATH": "/usr/bin:/bin"},
+        )
+        path = done.stdout.strip()
+        return os.path.relpath(path, os.path.realpath(self.root)) if path else done.stderr.splitlines()[-1]
+
+    def test_the_library_takes_the_same_one(self):
+        self.shipped()
+        self.assertEqual("dist/planner_cli", self.taken_by_the_library())
+        self.write("crates/base/src/lib.rt", "bass")
+        self.assertIn("NoProgram: the program `planner` isn't there", self.taken_by_the_library())
+        self.write("crates/planner_cli/out/planner_cli", PROGRAM)
+        self.assertEqual("crates/planner_cli/out/planner_cli", self.taken_by_the_library())
+        self.write("crates/base/src/lib.rt", "base")
+        self.assertEqual("dist/planner_cli", self.taken_by_the_library())
+        self.assertFalse(self.has_begun())
+
     def test_where_there_is_none_it_is_said(self):
         self.checkout()
         self.assertEqual(

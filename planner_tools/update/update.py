@@ -1,7 +1,7 @@
 """`planner update`: from the tables that the switches have to those that are wanted, by one command.
 
     planner update DIR --switches FILE [--listen HOST:PORT] [--wait SECONDS | --ask] [--patience SECONDS] [--yes | --dry-run]
-                   [--ordered | --two-phase] [--strict] [--quiet]
+                   [--ordered | --two-phase] [--without SWITCH].. [--strict] [--quiet]
 
 DIR has topology.json, new.json and policy.json. The steps are those that can be taken one by one as well: collect, import, plan, check, apply. What they make is
 kept in a new folder in DIR, `update-1` and so on: `replies`, `old.json`, `plan.json`, copies of the three files, and `record`, the record of the update. At the
@@ -10,6 +10,10 @@ end stand the commands that go on with it, or turn it back to the tables that th
 What there is to warn of in the three files is said first; --strict ends it there. Before the first change the entries that are changed are shown round by
 round, as `planner show` does, and what changes for whom, and it is asked whether the plan may be carried out; --yes answers so, and --dry-run ends there. With --quiet nothing is said
 but refusals and the question.
+
+--without is that of `planner apply`: a switch that is gone, and that no packet passes, isn't asked for its table. Its old rules are taken from the newest
+update of DIR that came to an end; where there is none from DIR/old.json, or else from new.json. When it is there again it is given its table by the line
+that stands at the end.
 
 Exit status: 0 done, or nothing was to be done, or it was a dry run; 2 wrong words; otherwise that of the step that stopped it, which is named: 1 refused or not
 wanted, 3 a bad file, or warnings with --strict, 4 too few tags, 5 too small a table, 6 and 7 a file can't be read or written.
@@ -28,11 +32,11 @@ from planner_tools import events, program, show
 from planner_tools.costs import OTHER, Costs
 from planner_tools.files import read_json
 from planner_tools.intent import diff
-from planner_tools.proved import How, answer_for, look, say_why
+from planner_tools.proved import How, answer_beside, answer_for, look, say_why
 from planner_tools.switches import apply, collect, connections, ends, under_way
 from planner_tools.switches.connections import host_and_port, progress, say
 from planner_tools.update.meanwhile import meanwhile
-from planner_tools.update.summary import summary
+from planner_tools.update.summary import counted, summary
 from planner_tools.voice import TELLING
 
 TYPE_CHECKING = False
@@ -44,7 +48,7 @@ STEPS = ("collect", "import", "plan", "check", "apply")
 # The commands of the program that make a plan, the preferred one first. A command that makes plans of fewer rounds has
 # its place before `plan`.
 PLANNERS = ("pack", "plan")
-REFUSED, BAD_FILE, UNREADABLE, UNWRITABLE = 1, 3, 6, 7
+REFUSED, WRONG_WORDS, BAD_FILE, UNREADABLE, UNWRITABLE = 1, 2, 3, 6, 7
 # What to do next where a step of the program doesn't end with 0, by the step and the status.
 NEXT = {
     (
@@ -103,7 +107,8 @@ class Update:
         replies = self.collect()
         self.make_folder()
         self.write("replies", replies)
-        self.write("old.json", self.of_program("import", "import", self.files["topology"], self.path("replies")))
+        old = self.of_program("import", "import", self.files["topology"], self.path("replies"))
+        self.write("old.json", self.with_the_absent(old) if self.options.without else old)
         plan = self.plan()
         if not plan["rounds"]:
             progress(f"the switches have the tables of {self.files['new']} already: nothing is to be done")
@@ -112,7 +117,7 @@ class Update:
         self.show(plan)
         if self.options.dry_run:
             progress(f"a dry run ends here: nothing was sent. The plan is {self.path('plan.json')}")
-            progress(f"it is carried out by: {shlex.join(self.apply_words())}")
+            progress(f"it is carried out by: {shlex.join([*self.apply_words(), *self.without_words()])}")
             return 0
         self.ask()
         return self.apply()
@@ -130,13 +135,20 @@ class Update:
                 ) from fault
         try:
             with open(self.files["topology"], encoding="utf-8") as file:
-                self.switches = len(json.load(file)["switches"])
+                names = [one["name"] for one in json.load(file)["switches"]]
+            self.switches = len(names)
+            unknown = [name for name in self.options.without if name not in names]
         except (ValueError, KeyError, TypeError, RecursionError) as fault:
             say_why("config", self.files["topology"], self.files["new"], self.files["policy"])
             raise Stopped(
                 "the files", f"{self.files['topology']} is no topology", "docs/FORMATS.md has the members of one",
                 BAD_FILE,
             ) from fault
+        if unknown:
+            raise Stopped(
+                "the files", f"--without {unknown[0]}: {self.files['topology']} has no switch {unknown[0]}",
+                f"name one of {', '.join(names)}", WRONG_WORDS,
+            )
 
     def warn(self) -> None:
         """Says what there is to warn of in the files. The runs behind that say no warning."""
@@ -182,13 +194,13 @@ class Update:
 
     def collect(self) -> str:
         """What the switches answer for their tables."""
-        progress(f"step 1: the tables of {self.switches} switches are read")
+        progress(f"step 1: the tables of {self.switches - len(set(self.options.without))} switches are read")
         asked = argparse.Namespace(
             topology=self.files["topology"], switches=self.options.switches, patience=self.options.patience,
             listen=host_and_port(self.options.listen) if self.options.listen else None,
         )
         try:
-            tables = collect.read(asked)
+            tables = collect.read(asked, self.options.without)
             found = under_way.find(self.options.folder, tables, self.apply_line)
             if found is not None:
                 raise Stopped("collect", found.what, found.then)
@@ -196,6 +208,27 @@ class Update:
         except (connections.Stop, OSError) as stop:
             say(f"stopped: {stop}. Next: {getattr(stop, 'then', 'see to it, and ask again')}")
             raise Stopped("collect", "the lines above say why", "") from stop
+
+    def with_the_absent(self, text: str) -> str:
+        """The configuration that the switches have, with the rules that those had that are gone, as far as it is
+        known. What they have matters to no packet before they are there again, and are given their tables."""
+        path = self.last_known()
+        config = json.loads(text)
+        added = [rule for rule in nets.plain(read_json(path).root)["rules"] if rule["switch"] in self.options.without]
+        config["rules"] += added
+        names = ", ".join(self.options.without)
+        progress(f"{names}: the rules of {path} count as the old ({counted(len(added), 'rule')})")
+        return json.dumps(config) + "\n"
+
+    def last_known(self) -> str:
+        """The configuration that the switches were given last, as far as this folder knows it."""
+        for head in under_way.heads_in(self.options.folder):
+            files = head.files()
+            core = head.core(files) if files is not None else None
+            if files is not None and core is not None and not core.is_running and core.settled in (0, core.rounds):
+                return files[2] if core.settled else files[1]
+        path = os.path.join(self.options.folder, "old.json")
+        return path if os.path.isfile(path) else self.files["new"]
 
     def of_program(self, step: str, command: str, *words: str) -> str:
         """What a command of the program writes, where it ends with 0."""
@@ -217,6 +250,7 @@ class Update:
     def plan(self) -> dict[str, Any]:
         """The plan, which `check` accepts."""
         files = [self.files["topology"], self.path("old.json"), self.files["new"], self.files["policy"]]
+        progress(f"step 3: a plan is made by `planner {PLANNERS[0]}`, from what they have to {self.files['new']}")
         text = self.of_program("plan", PLANNERS[0], *files, *self.options.kind)
         self.write("plan.json", text)
         events.tell("plan", file=self.path("plan.json"), plan=json.loads(text))
@@ -276,7 +310,7 @@ class Update:
     def other_words(self, kind: str) -> list[str]:
         """What a plan of a kind would cost, or why there is none."""
         files = [self.files["topology"], self.path("old.json"), self.files["new"], self.files["policy"]]
-        return Costs(program.run, files, None if self.options.ask else self.options.wait).other_words(kind)
+        return Costs(answer_beside, files, None if self.options.ask else self.options.wait).other_words(kind)
 
     def ask(self) -> None:
         self.see_that_it_is_heard()
@@ -305,6 +339,10 @@ class Update:
             "--patience", f"{self.options.patience:g}",
         ]
 
+    def without_words(self) -> list[str]:
+        """What says to a first run which switches are gone. The record keeps it for the others."""
+        return [word for name in self.options.without for word in ("--without", name)]
+
     def apply_line(self, files: Sequence[str], record: str) -> str:
         return shlex.join(self.apply_words(files, record))
 
@@ -312,7 +350,7 @@ class Update:
         """Carries the plan out. What stands in the way is said by `apply` itself; behind it come the lines to go on
         with and to turn back with."""
         words = self.apply_words()
-        status = apply.main(words[2:], self.how)
+        status = apply.main([*words[2:], *self.without_words()], self.how)
         record = self.path("record")
         if status == 0:
             progress(f"the record is {record}; `planner serve` prints from it what was sent")
@@ -333,6 +371,7 @@ def main(words: Sequence[str]) -> int:
     parser.add_argument("--switches", metavar="FILE", required=True)
     parser.add_argument("--listen", metavar="HOST:PORT")
     apply.add_pace(parser)
+    parser.add_argument("--without", metavar="SWITCH", action="append", default=[])
     parser.add_argument("--yes", action="store_true")
     parser.add_argument("--dry-run", action="store_true")
     parser.add_argument("--strict", action="store_true")

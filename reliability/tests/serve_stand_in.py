@@ -26,6 +26,22 @@ class Wrong(serve_model.Serve):
             self.last_xid = 0
         super().back()
 
+    def dead(self, name):
+        if FAULT != "waits for the dead":
+            super().dead(name)
+
+    def log_dead(self, way):
+        if FAULT == "forgets the changes of the dead":
+            self.in_force = set()
+        else:
+            super().log_dead(way)
+
+    def reopen(self, name):
+        if FAULT == "says of the dead that they are open" and self.sessions[name].state == serve_model.DEAD:
+            self.sessions[name].state = serve_model.OPEN
+        else:
+            super().reopen(name)
+
     def send_again(self, name):
         if FAULT != "forgets what waits":
             super().send_again(name)

@@ -143,7 +143,8 @@ class Forward(Written):
     def test_lines_that_are_bad_and_comments(self):
         self.begun()
         for line in (
-            "start ", " start", "START", "feed", "feed s1", "feed s1 ", "feed s1 0", "feed s1 0g", "feed s9 00",
+            "start ", " start", "START", "dead", "dead ", "dead s9", "dead s1 ", "feed", "feed s1", "feed s1 ",
+            "feed s1 0", "feed s1 0g", "feed s9 00",
             "feed s1 00 00", "reopen", "reopen s9", "back s1", "feed  s1 00", "stop", " ", "start\r", "#" * 262145,
             "feed s1 " + "00" * 131069,
         ):
@@ -289,6 +290,75 @@ class Back(Written):
         self.say("start", "start", f"send s3 {replace(2, 3)}", f"send s3 {barrier(3)}", "ok running 2 of 2")
 
 
+class Dead(Written):
+    """Plans of leaf and spine in one round have twelve changes: three at each of l1 to l4."""
+
+    def running(self):
+        """The round runs: the xids 1 to 12, and 13 to 16 of the barrier requests."""
+        self.begun("leaf-spine", in_one_round(plan_of("leaf-spine")))
+        self.open("l1", "l2", "l3", "l4")
+        self.serve.line(b"start")
+
+    def test_the_last_one_that_is_waited_for(self):
+        self.both_rounds()
+        self.say("back", "back", f"send s3 {replace(5, 2)}", f"send s3 {barrier(6)}", "ok running 2 of 2")
+        self.say("dead s3", "undo 0", "settle", "ok settled 1 of 2")
+        self.say("dead s3", "ok settled 1 of 2")
+        self.say("start", "start", "change 0", "settle", "ok settled 2 of 2")
+        self.say("back", "back", "undo 0", "settle", "ok settled 1 of 2")
+        self.say("back", "back", f"send s1 {replace(11, 2)}", f"send s1 {barrier(12)}", "ok running 1 of 2")
+
+    def test_their_changes_stand_before_settle(self):
+        self.running()
+        self.say("dead l3", "ok running 1 of 1")
+        self.say(f"feed l4 {reply(16)}", "change 9", "change 10", "change 11", "ok running 1 of 1")
+        self.say("dead l1", "ok running 1 of 1")
+        self.say("dead l4", "ok running 1 of 1")
+        self.say(f"feed l3 {reply(15)}", "ok running 1 of 1")
+        self.say(
+            f"feed l2 {reply(14)}", "change 3", "change 4", "change 5", "change 0", "change 1", "change 2", "change 6",
+            "change 7", "change 8", "settle", "ok settled 1 of 1",
+        )
+
+    def test_and_are_taken_back_so(self):
+        self.running()
+        for name, xid, first in (("l1", 13, 0), ("l4", 16, 9)):
+            self.say(
+                f"feed {name} {reply(xid)}", f"change {first}", f"change {first + 1}", f"change {first + 2}",
+                "ok running 1 of 1",
+            )
+        self.serve.line(b"back")
+        for name in ("l1", "l3", "l4"):
+            self.say(f"dead {name}", "ok running 1 of 1")
+        self.say(
+            f"feed l2 {reply(14)}{reply(30)}", "change 3", "change 4", "change 5", "undo 5", "undo 4", "undo 3",
+            "undo 11", "undo 10", "undo 9", "undo 2", "undo 1", "undo 0", "settle", "ok settled 0 of 1",
+        )
+
+    def test_one_is_there_again(self):
+        self.begun()
+        self.open("s1")
+        self.say("start", "start", f"send s1 {replace(1, 4)}", f"send s1 {barrier(2)}", "ok running 1 of 2")
+        self.say("dead s1", "change 0", "settle", "ok settled 1 of 2")
+        self.say("reopen s1", f"send s1 {HELLO}", "ok settled 1 of 2")
+        self.say("back", "no open s1")
+        self.say(f"feed s1 {HELLO}", "ok settled 1 of 2")
+        self.say("back", "back", f"send s1 {replace(3, 2)}", f"send s1 {barrier(4)}", "ok running 1 of 2")
+        self.running()
+        self.say("dead l1", "ok running 1 of 1")
+        self.say("reopen l1", f"send l1 {HELLO}", "ok running 1 of 1")
+        self.assertEqual(5, len(self.serve.line(f"feed l1 {HELLO}".encode())))
+        self.say("dead l1", "ok running 1 of 1")
+        self.say(f"feed l1 {HELLO}{reply(13)}", "ok running 1 of 1")
+
+    def test_no_open_passes_over_them(self):
+        self.begun()
+        self.say("start", "no open s1")
+        self.say("dead s1", "ok settled 0 of 2")
+        self.say("start", "start", "change 0", "settle", "ok settled 1 of 2")
+        self.say("start", "no open s3")
+
+
 class Reopen(Written):
     def test_what_is_not_answered_is_sent_again(self):
         self.begun("leaf-spine", in_one_round(plan_of("leaf-spine")))
@@ -380,6 +450,7 @@ class Random(unittest.TestCase):
                     "no open" if block[-1].startswith("no open") else "ok" if block[-1].startswith("ok ") else "no",
                 ] += 1
                 met[word, way, "waits"] += unanswered != set()
+                met[word, way, "settles"] += "settle" in block
                 met[word, way, "sent again"] += word == "feed" and any(
                     line.startswith("send ") and line.split(" ")[2].startswith("010e") for line in block
                 )
@@ -389,7 +460,8 @@ class Random(unittest.TestCase):
             (("reopen", model.BACK, "waits"), 100), (("feed", model.FORWARD, "sent again"), 20),
             (("feed", model.BACK, "sent again"), 100), (("feed", model.BACK, "Xid"), 10),
             (("back", model.FORWARD, "waits"), 10), (("back", None, "no open"), 0), (("start", None, "no open"), 50),
-            (("start", model.BACK, "no"), 100),
+            (("start", model.BACK, "no"), 100), (("dead", None, "ok"), 50), (("dead", model.FORWARD, "settles"), 5),
+            (("dead", model.BACK, "settles"), 5), (("start", None, "settles"), 1), (("back", None, "settles"), 1),
         ):
             self.assertGreater(met[what], least, what)
 
@@ -416,16 +488,23 @@ class Random(unittest.TestCase):
     def test_the_messages_lead_to_the_tables(self):
         """Where no round runs the messages have made the tables of the rounds that are settled, whatever was turned and
         sent again on the way."""
-        for _, _, made in self.lists():
+        for update, plan, made in self.lists():
             steps = [tables_of(made.names, table) for table in made.serve.tables]
             tables = tables_of(made.names, made.serve.tables[0])
-            for block in made.blocks:
+            again = model.Serve(update["topology"], update["old"], plan)
+            for said, block in zip((b"", *made.lines), made.blocks):
+                name = said.decode("latin-1").removeprefix("reopen ")
+                if name in made.names and again.sessions[name].state == model.DEAD:
+                    tables[name] = tables_of(made.names, again.table_now())[name]      # it has been repaired
+                again.line(said)
                 for words in (line.split(" ") for line in block):
                     if words[0] == "send" and words[2].startswith("010e"):
                         tables[words[1]].hear(bytes.fromhex(words[2]))
                 if block[-1].startswith("ok settled "):
                     for name in made.names:
-                        self.assertEqual(steps[int(block[-1].split(" ")[2])][name].entries, tables[name].entries, name)
+                        if again.sessions[name].state != model.DEAD:
+                            wanted = steps[int(block[-1].split(" ")[2])][name]
+                            self.assertEqual(wanted.entries, tables[name].entries, name)
 
     def test_bytes_may_be_cut_anywhere(self):
         rng = random.Random(1)
@@ -508,10 +587,10 @@ class Script(unittest.TestCase):
     def test_faults_are_found(self):
         for fault in (
             "starts without sessions", "begins anew to count", "forgets what waits", "takes any answer", "ends badly",
-            "refuses",
+            "refuses", "waits for the dead", "forgets the changes of the dead", "says of the dead that they are open",
         ):
             with self.subTest(fault):
-                self.assertTrue(self.said_of(fault, lists=2)[0])
+                self.assertTrue(self.said_of(fault, lists=4)[0])
 
     def test_a_block_that_comes_late_is_found(self):
         with unittest.mock.patch.object(serve, "SECONDS", 5):

@@ -163,6 +163,16 @@ class Repairing(unittest.TestCase):
         )
         self.assertTrue(all(one in ALL for one in plan["rules"][:5]))
 
+    def test_at_a_dead_switch_entries_are_taken_out_first(self):
+        found = expected([LOW, HIGH]).differences("s1", answers_of([STRIP, {**HIGH, "out": 9}, TAGGED], True))
+        for dead, order in (
+            (["s1"], [("delete", 16484), ("delete", 32868), ("replace", 20), ("insert", 10)]),
+            (["s2"], [("replace", 20), ("insert", 10), ("delete", 16484), ("delete", 32868)]),
+        ):
+            plan = repair_plan(found, dead)
+            told = [(do, plan["rules"][at]["priority"]) for one in plan["rounds"] for do, at in one]
+            self.assertEqual(told, order)
+
     def test_at_each_moment_a_packet_meets_what_it_met_or_what_it_must_meet(self):
         nested = [
             {"switch": "s1", "priority": 10 * length, "dst": f"10.0.0.0/{length}", "out": length}

@@ -16,7 +16,7 @@ import unittest
 
 sys.path.insert(0, str(pathlib.Path(__file__).resolve().parents[2] / "switches" / "tests"))
 
-from network import EXAMPLES, FRONT_END, LONGEST, PLANNER, Network, heed_interrupts  # noqa: E402
+from network import DATAPATHS, EXAMPLES, FRONT_END, LONGEST, PLANNER, Network, heed_interrupts  # noqa: E402
 import fake_switch  # noqa: E402
 from planner_tools.update import meanwhile, summary  # noqa: E402
 
@@ -510,6 +510,41 @@ class UnderWay(UpdateCommand):
         said = self.run_it(net, "--yes")[1]
         self.assertIn("nor a plan whose tables these are", said)
         self.assertIn(f"a file whose second line begins with `# update {token}`", said)
+
+
+class Gone(UpdateCommand):
+    def test_an_update_without_a_switch_that_is_gone(self):
+        """Its old rules are those of the last update that came to its end, of old.json, or else of new.json."""
+        net = self.network()
+        status, said = self.run_it(net, "--yes")
+        self.assertEqual(status, 0, said)
+        shutil.copy(EXAMPLES / "square" / "old.json", net.wanted / "new.json")
+        net.switches["s3"].stop()
+        status, said = self.run_it(net, "--yes", "--without", "s3")
+        self.assertEqual(status, 0, said)
+        self.assertIn("step 1: the tables of 3 switches are read", said)
+        self.assertIn(f"s3: the rules of {net.wanted}/update-1/new.json count as the old (1 rule)", said)
+        done = next(line for line in said.splitlines() if line.startswith("done: "))
+        self.assertIn("--resume --repair s3 does so", done)
+        net.switches["s3"] = fake_switch.FakeSwitch(DATAPATHS["square"]["s3"], net.address)
+        net.switches["s3"].start()
+        self.addCleanup(net.switches["s3"].stop)
+        self.assertNotIn("--without", said.splitlines()[-1])     # it may be typed when the switch is there again
+        self.carry_out(re.search(r"\(`planner (apply [^`]*)`\)", done)[1])
+        self.assertTrue(net.has(EXAMPLES / "square" / "old.json"))
+
+    def test_where_its_old_rules_are_looked_for(self):
+        net = self.network()
+        net.switches["s3"].stop()
+        self.stops(
+            net, self.run_it(net, "--yes", "--without", "s9"), 2, "the files", "has no switch s9", "name one of s1, s2,"
+        )
+        for copied, path in (("new", "new.json"), ("old", "old.json")):
+            with self.subTest(path):
+                shutil.copy(EXAMPLES / "square" / f"{copied}.json", net.wanted / path)
+                said = self.run_it(net, "--dry-run", "--without", "s3")[1]
+                self.assertIn(f"s3: the rules of {net.wanted}/{path} count as the old (1 rule)", said)
+        self.assertIn("--without s3", said.splitlines()[-1])
 
 
 class Summaries(unittest.TestCase):
