@@ -1,18 +1,26 @@
 #!/usr/bin/env python3
-"""Writes what planner_run says of each command, from the table of tools/command_table.py and the templates of tools/templates.
+"""Writes what planner_run says of each command, from the table of tools/command_table.py and the templates of
+tools/templates.
 
     tools/commands.py           writes the files, and the libraries of planner_run in crates.txt
     tools/commands.py --check   prints those that aren't what it would write, and fails where it prints one
 
-A line `@each KIND TEXT` of a template, or a run of such lines, stands for the text once for each command of that kind: `answers`, `serves`,
-`reads_none`, `reads` for the first two, nothing for all. In a text `%word%` is what `fields` gives for the command; `%word%` elsewhere is what
-`lists` gives for all. Lines between `@block NAME` and `@end` stand where a line `@put NAME` is, so that what several functions promise is named once.
+A line `@each KIND TEXT` of a template, or a run of such lines, stands for the text once for each command of that kind:
+`answers`, `serves`, `reads_none`, `reads` for the first two, nothing for all. In a text `%word%` is what `fields` gives
+for the command; `%word%` elsewhere is what `lists` gives for all. Lines between `@block NAME` and `@end` stand where a
+line `@put NAME` is, so that what several functions promise is named once.
 """
+from __future__ import annotations
+
 import re
 import sys
 
 import making
-from command_table import MEANINGS, ROWS, WORDS
+from command_table import MEANINGS, ROWS, WORDS, Row
+
+TYPE_CHECKING = False
+if TYPE_CHECKING:
+    from typing import Iterable, Sequence
 
 CRATE = "crates/planner_run"
 # The template of each file.
@@ -23,26 +31,37 @@ FILES = {
     f"{CRATE}/proofs/run/run/Answers.antt": "run.Answers.antt.template",
     f"{CRATE}/proofs/run/reply_to/Answers.antt": "reply_to.Answers.antt.template",
 }
-KINDS = {"": ("answers", "serves", "reads_none"), "reads": ("answers", "serves"), **{it: (it,) for it in ("answers", "serves", "reads_none")}}
+KINDS: dict[str, tuple[str, ...]] = {
+    "": ("answers", "serves", "reads_none"),
+    "reads": ("answers", "serves"),
+    **{it: (it,) for it in ("answers", "serves", "reads_none")},
+}
 # What planner_run uses besides the crates of the commands.
 OTHER_LIBRARIES = ("file_access", "certificates", "command_base", "check_base")
+# What its code brings besides.
+OTHER_CALLS = (
+    "use command_base::{Exit, Reply, Status};", "use file_access::{Sink, Source, WriteFault, pour};",
+    "use std::alloc::Global;",
+)
+# A place, as `one_command.Names`, and a word that stands there.
+Pair = tuple[str, str]
 EACH = re.compile(r"@each (?:(answers|serves|reads|reads_none) )?(.*)")
 
 
-def crate_of(row):
+def crate_of(row: Row) -> str:
     return f"{row.name}_command"
 
 
-def promise_crate(row):
+def promise_crate(row: Row) -> str:
     return row.promise_in or crate_of(row)
 
 
-def applied(word, arguments):
+def applied(word: str, arguments: list[str]) -> str:
     """Returns the word, with arguments behind it in brackets where there are some."""
     return f"({word} {' '.join(arguments)})" if arguments else word
 
 
-def fields(row, rows=ROWS):
+def fields(row: Row, rows: Sequence[Row] = ROWS) -> dict[str, str]:
     """Returns what the words of a template mean for a command."""
     words, means, name = WORDS[row.words], MEANINGS[row.means], row.name.title()
     reads = row.kind != "reads_none"
@@ -73,84 +92,96 @@ def fields(row, rows=ROWS):
     }
 
 
-def module(place):
+def module(place: str) -> str:
     """Returns the whole name of a module of definitions: of `one_command.Names` `Rattle.one_command.specs.Names`."""
     crate, _, file = place.partition(".")
     return f"Rattle.{crate}.specs.{file}"
 
 
-def gathered(pairs):
+def gathered(pairs: Iterable[Pair]) -> dict[str, list[str]]:
     """Returns the words by their places, each once, in order."""
-    found = {}
+    found: dict[str, dict[str, bool]] = {}
     for place, word in pairs:
         found.setdefault(place, {})[word] = True
     return {place: [*words] for place, words in found.items()}
 
 
-def imports(pairs, start="use ", end=""):
+def imports(pairs: Iterable[Pair], start: str = "use ", end: str = "") -> str:
     """Returns the lines that bring words from modules, from pairs of a place and a word."""
-    return "\n".join(f"{start}{module(place)}.{{{', '.join(words)}}}{end}" for place, words in gathered(pairs).items())
+    found = gathered(pairs)
+    return "\n".join(f"{start}{module(place)}.{{{', '.join(words)}}}{end}" for place, words in found.items())
 
 
-def definitions(rows):
+def definitions(rows: Sequence[Row]) -> str:
     """Returns the imports of the definitions of what is asked for."""
     words, means = [WORDS[it.words] for it in rows], [MEANINGS[it.means] for it in rows if it.means]
     aliases = dict.fromkeys(f"use {module(it.module)} as {it.alias}" for it in words)
-    pairs = [pair for it in means for pair in ((it.meaning_in, it.meaning), (it.dialogue_in, it.dialogue))]
+    places = [((it.meaning_in, it.meaning), (it.dialogue_in, it.dialogue)) for it in means]
+    pairs = [pair for both in places for pair in both]
     pairs += [(it.type_in, it.type) for row in rows for it in row.before if it.type_in]
     return "\n".join([*aliases, imports(pairs + [(it.answer_in, it.answer) for it in rows])])
 
 
-def lists(rows=ROWS):
+def titles(rows: Sequence[Row], start: str = "") -> str:
+    """Returns the names of commands as a list, each with a capital and behind a start."""
+    return ", ".join(f"{start}{it.name.title()}" for it in rows)
+
+
+def lists(rows: Sequence[Row] = ROWS) -> dict[str, str]:
     """Returns what the words of a template mean that speak of all commands."""
     answers = [it for it in rows if it.kind == "answers"]
     told = [it for it in rows if it.kind != "serves"]
-    of_words = gathered((WORDS[it.words].crate, name) for it in rows for name in (WORDS[it.words].rust.partition("<")[0], WORDS[it.words].function))
-    calls = ["use command_base::{Exit, Reply, Status};", "use file_access::{Sink, Source, WriteFault, pour};", "use std::alloc::Global;"]
-    calls += [f"use {crate_of(it)}::{it.name};" for it in rows] + [f"use {promise_crate(it)}::laws::{it.name}_promised;" for it in rows]
+    own = [WORDS[it.words] for it in rows]
+    of_words = gathered((it.crate, name) for it in own for name in (it.rust.partition("<")[0], it.function))
+    calls = [*OTHER_CALLS, *(f"use {crate_of(it)}::{it.name};" for it in rows if it.kind != "serves")]
+    calls += [f"use {crate_of(it)}::{{SourceBeside, {it.name}}};" for it in rows if it.kind == "serves"]
+    calls += [f"use {promise_crate(it)}::laws::{it.name}_promised;" for it in rows]
     promises = [(WORDS[it.words].module, WORDS[it.words].files) for it in rows if it.kind != "reads_none"]
     promises += [(f"{promise_crate(it)}.Promise", f"{it.name.title()}Promise") for it in rows]
     means = [(MEANINGS[it.means].dialogue_in, MEANINGS[it.means].dialogue) for it in answers]
-    names, ofs = (lambda chosen: ", ".join(it.name.title() for it in chosen)), (lambda chosen: ", ".join(f"Of{it.name.title()}" for it in chosen))
     return {
         "definitions": definitions(rows),
-        "words": "\n".join(f"use {crate}::{{{', '.join(sorted(found))}}};" for crate, found in sorted(of_words.items())),
+        "words": "\n".join(f"use {crate}::{{{', '.join(sorted(it))}}};" for crate, it in sorted(of_words.items())),
         "calls": "\n".join(["use crate::command::{Command, command_of};", *sorted(calls)]),
         "promises": imports(promises, "ghost use ", ";"),
         "said": imports(means + [(it.answer_in, it.answer) for it in told]),
-        "Names": names(rows),
-        "Told": names(told),
-        "OfTold": ofs(told),
-        "OfAnswered": ofs(answers),
+        "Names": titles(rows),
+        "Told": titles(told),
+        "OfTold": titles(told, "Of"),
+        "OfAnswered": titles(answers, "Of"),
     }
 
 
-def filled(text, values):
+def filled(text: str, values: dict[str, str]) -> str:
     """Returns the text with each `%word%` in it replaced."""
     return re.sub(r"%(\w+)%", lambda found: values[found[1]], text)
 
 
-def with_blocks(template):
+def with_blocks(template: str) -> list[str]:
     """Returns the lines of a template with its blocks put in their places."""
-    blocks, lines, name = {}, [], None
+    lines: list[str] = []
+    blocks: dict[str, list[str]] = {}
+    into = lines
     for line in template.splitlines():
         word, _, rest = line.partition(" ")
         if word == "@block":
-            name, blocks[rest] = rest, []
+            into = blocks[rest] = []
         elif word == "@end":
-            name = None
+            into = lines
         elif word == "@put":
             lines += blocks[rest]
         else:
-            (lines if name is None else blocks[name]).append(line)
+            into.append(line)
     return lines
 
 
-def written(template, rows=ROWS):
+def written(template: str, rows: Sequence[Row] = ROWS) -> str:
     """Returns the text of a file, from the text of its template."""
-    said, block, kind, of_all = [], [], "", lists(rows)
+    said: list[str] = []
+    block: list[str] = []
+    kind, of_all = "", lists(rows)
 
-    def end_block():
+    def end_block() -> None:
         for row in rows if block else ():
             if row.kind in KINDS[kind]:
                 said.extend(filled(it, fields(row, rows)) for it in block)
@@ -169,13 +200,14 @@ def written(template, rows=ROWS):
     return "\n".join(said) + "\n"
 
 
-def with_libraries(text, rows=ROWS):
+def with_libraries(text: str, rows: Sequence[Row] = ROWS) -> str:
     """Returns the text of crates.txt with the libraries of planner_run."""
-    found = dict.fromkeys([*OTHER_LIBRARIES, *(name for it in rows for name in (crate_of(it), promise_crate(it)))])
+    own = [name for it in rows for name in (crate_of(it), promise_crate(it))]
+    found = dict.fromkeys([*OTHER_LIBRARIES, *own])
     return re.sub(r"(?m)^planner_run:.*$", f"planner_run: {' '.join(found)}", text)
 
 
-def texts():
+def texts() -> dict[str, str]:
     """Returns the texts that the files are to have, by their paths."""
     found = {path: written(making.read(f"tools/templates/{template}")) for path, template in FILES.items()}
     return {**found, "crates.txt": with_libraries(making.read("crates.txt"))}

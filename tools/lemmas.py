@@ -1,12 +1,16 @@
 #!/usr/bin/env python3
-"""Finds the lemmas that nothing cites: definitions of proofs/ whose name stands nowhere in the crates but in themselves and in imports.
+"""Finds the lemmas that nothing cites: definitions of proofs/ whose name stands nowhere in the crates but in themselves
+and in imports.
 
     tools/lemmas.py           prints them, and how many lines they take
     tools/lemmas.py --check   the same, and fails where it prints one
 
-The answers to a function's goals (Answers.antt, Invariants.antt, Proof.antt) are named by the goals, and aren't looked at; nor are worked rows
-(Rows.antt, RunRows.antt), which show definitions on examples. A name that stands in two files counts as cited where either is.
+The answers to a function's goals (Answers.antt, Invariants.antt, Proof.antt) are named by the goals, and aren't looked
+at; nor are worked rows (Rows.antt, RunRows.antt), which show definitions on examples. A name that stands in two files
+counts as cited where either is.
 """
+from __future__ import annotations
+
 import os
 import re
 import sys
@@ -22,9 +26,10 @@ OTHER = re.compile(r"(?:pub\s+)?(?:use|mod|module|record|data)\b")
 WORD = re.compile(r'[^\s(){}\[\],;.:="]+')
 
 
-def items_in(text):
-    """Returns what stands in a file of definitions, item by item: the name that each defines, or none, and its text. The clauses of a name are its own."""
-    items = []
+def items_in(text: str) -> list[tuple[str | None, str]]:
+    """Returns what stands in a file of definitions, item by item: the name that each defines, or none, and its text.
+    The clauses of a name are its own."""
+    items: list[tuple[str | None, list[str]]] = []
     for line in re.sub(r"--.*", "", text).split("\n"):
         is_inner = not line or line[0].isspace() or line[0] in ")}]"
         head = None if is_inner else HEAD.match(line)
@@ -38,14 +43,16 @@ def items_in(text):
     return [(name, "\n".join(lines)) for name, lines in items]
 
 
-def count_words(text, into):
+def count_words(text: str, into: dict[str, int]) -> None:
     for word in WORD.findall(text):
         into[word] = into.get(word, 0) + 1
 
 
-def uncited(files):
-    """Returns of each lemma that nothing cites the path, the name and the lines, from the texts of all files by their paths."""
-    words, lemmas = {}, []
+def uncited(files: dict[str, str]) -> list[tuple[str, str, int]]:
+    """Returns of each lemma that nothing cites the path, the name and the lines, from the texts of all files by their
+    paths."""
+    words: dict[str, int] = {}
+    lemmas = []
     for path, text in files.items():
         if path.endswith(".rt"):
             count_words(text, words)
@@ -55,10 +62,11 @@ def uncited(files):
                 count_words(own, words)
             if name and "/proofs/" in path and os.path.basename(path) not in PASSED_OVER:
                 lemmas.append((path, name, own))
-    return [(path, name, len(own.strip().split("\n"))) for path, name, own in lemmas if words[name] == WORD.findall(own).count(name)]
+    lonely = [(path, name, own) for path, name, own in lemmas if words[name] == WORD.findall(own).count(name)]
+    return [(path, name, len(own.strip().split("\n"))) for path, name, own in lonely]
 
 
-def main(words):
+def main(words: list[str]) -> int:
     if words not in ([], ["--check"]):
         print(__doc__, file=sys.stderr)
         return 2

@@ -3,9 +3,11 @@
 
     tools/lint.py
 
-Of Python: what the compiler warns of, tabs, white space at the end of a line, and lines of more than 120 signs, but for those of texts that stand as they are
-(help, other languages) and for tools/, where they may have 240; and what pyflakes says (Debian's package pyflakes3): names that nothing uses or nothing gives a value, and more; and what mypy says, by mypy.ini, of what has types. Of shell
-scripts: what shellcheck says. Where one of the three isn't on the machine it is left out, and a line on the error stream says so.
+Of Python: what the compiler warns of, tabs, white space at the end of a line, and lines of more than 120 signs, but for
+those of texts that stand as they are (help, other languages); and what pyflakes says (Debian's package pyflakes3):
+names that nothing uses or nothing gives a value, and more; and what mypy says, by mypy.ini, of what has types. Of shell
+scripts: what shellcheck says. Where one of the three isn't on the machine it is left out, and a line on the error
+stream says so.
 Exit status: 0 nothing was found, 1 something was.
 """
 from __future__ import annotations
@@ -24,10 +26,14 @@ if TYPE_CHECKING:
     from typing import Sequence
 
 ROOT = os.path.dirname(os.path.dirname(os.path.realpath(__file__)))
-LONGEST, LONGEST_IN_TOOLS = 120, 240
+LONGEST = 120
 PYFLAKES = ("pyflakes3", "pyflakes")
-# The packages that mypy looks at, and the folders whose scripts it looks at; those of a folder name each other without it.
-TYPED_PACKAGES, TYPED_FOLDERS = ("planner_tools", "planner"), ("bench", "lab", "reliability")
+# The packages that mypy looks at, and the folders whose scripts it looks at; those of a folder name each other without
+# it. Of TYPED_TESTS it looks at the tests too.
+TYPED_PACKAGES, TYPED_FOLDERS = ("planner_tools", "planner"), ("bench", "lab", "reliability", "tools")
+TYPED_TESTS = ("tools",)
+# Folders of which no script is looked at.
+PASSED_OVER = (".git", "__pycache__", "out", "src", "specs", "proofs", "must-fail")
 SHELLS = ("#!/bin/sh", "#!/usr/bin/env bash", "#!/bin/bash")
 
 
@@ -35,7 +41,7 @@ def scripts() -> tuple[list[str], list[str]]:
     """The paths of all Python and shell scripts, from the root on."""
     python, shell = [], []
     for at, folders, names in os.walk(ROOT):
-        folders[:] = sorted(name for name in folders if name not in (".git", "__pycache__", "out", "src", "specs", "proofs", "must-fail"))
+        folders[:] = sorted(name for name in folders if name not in PASSED_OVER)
         for name in sorted(names):
             path = os.path.join(at, name)
             if name.endswith(".py") or first_line(path).startswith("#!") and "python3" in first_line(path):
@@ -65,16 +71,22 @@ def of_python(path: str) -> list[tuple[int, str]]:
         except SyntaxError as fault:
             return [(fault.lineno or 0, f"it isn't Python: {fault.msg}")]
     findings = [(one.lineno, str(one.message)) for one in found]
-    longest, prose = LONGEST_IN_TOOLS if os.path.dirname(path) == os.path.join(ROOT, "tools") else LONGEST, texts_in(text, tree)
+    prose = texts_in(text, tree)
     for number, line in enumerate(text.splitlines(), 1):
-        looked_for = (("a tab", "\t" in line), ("white space at its end", line != line.rstrip()), (f"more than {longest} signs", len(line) > longest and number not in prose))
+        looked_for = (
+            ("a tab", "\t" in line),
+            ("white space at its end", line != line.rstrip()),
+            (f"more than {LONGEST} signs", len(line) > LONGEST and number not in prose),
+        )
         findings += [(number, words) for words, is_so in looked_for if is_so]
     return findings
 
 
 def texts_in(text: str, tree: ast.Module) -> set[int]:
-    """The lines of texts that stand as they are, over several lines: but of those about a module, a class or a function only such as are printed."""
-    about = {node.body[0].lineno for node in ast.walk(tree) if isinstance(node, (ast.Module, ast.ClassDef, ast.FunctionDef, ast.AsyncFunctionDef))
+    """The lines of texts that stand as they are, over several lines: but of those about a module, a class or a function
+    only such as are printed."""
+    about = {node.body[0].lineno for node in ast.walk(tree)
+             if isinstance(node, (ast.Module, ast.ClassDef, ast.FunctionDef, ast.AsyncFunctionDef))
              and ast.get_docstring(node) is not None and not (isinstance(node, ast.Module) and "__doc__" in text)}
     found: set[int] = set()
     for token in tokenize.generate_tokens(io.StringIO(text).readline):
@@ -84,7 +96,8 @@ def texts_in(text: str, tree: ast.Module) -> set[int]:
 
 
 def of_names(paths: Sequence[str]) -> list[str]:
-    """What pyflakes says of Python scripts, a line each; nothing of an import that is there on purpose, as `noqa: F401` says."""
+    """What pyflakes says of Python scripts, a line each; nothing of an import that is there on purpose, as `noqa: F401`
+    says."""
     program = next((found for found in map(shutil.which, PYFLAKES) if found), None)
     if program is None:
         left_out("pyflakes", "pyflakes3")
@@ -96,20 +109,22 @@ def of_names(paths: Sequence[str]) -> list[str]:
 
 
 def of_types(packages: Sequence[str] = TYPED_PACKAGES, folders: Sequence[str] = TYPED_FOLDERS) -> list[str]:
-    """What mypy says, a line each. Tests have no types."""
+    """What mypy says, a line each. Tests have no types but for those of TYPED_TESTS."""
     if not shutil.which("mypy"):
         left_out("mypy", "mypy")
         return []
     found = types_in(ROOT, [word for name in packages for word in ("-p", name)])
     for folder in folders:
         names = sorted(name for name in os.listdir(os.path.join(ROOT, folder)) if name.endswith(".py"))
-        found += types_in(os.path.join(ROOT, folder), [name for name in names if not name.startswith("test_")])
+        has_types = folder in TYPED_TESTS
+        found += types_in(os.path.join(ROOT, folder), [it for it in names if has_types or not it.startswith("test_")])
     return found
 
 
 def types_in(folder: str, words: Sequence[str]) -> list[str]:
     """What mypy says of some packages, or of scripts of a folder, a line each."""
-    given = ["mypy", "--config-file", os.path.join(ROOT, "mypy.ini"), "--cache-dir", os.devnull, "--no-error-summary"]
+    settings = os.path.join(ROOT, "mypy.ini")
+    given = ["mypy", "--config-file", settings, "--cache-dir", os.devnull, "--no-error-summary"]
     done = subprocess.run([*given, *words], capture_output=True, text=True, cwd=folder, check=False)
     return [os.path.relpath(os.path.join(folder, line), ROOT) if line[:1].isalnum() else line
             for line in (done.stdout + done.stderr).splitlines()]
@@ -131,7 +146,8 @@ def is_wanted(line: str) -> bool:
 
 def left_out(name: str, package: str) -> None:
     """Says that a program isn't on the machine."""
-    print(f"lint: {name} isn't on this machine, so what it finds is left out (Debian's package {package})", file=sys.stderr)
+    print(f"lint: {name} isn't on this machine, so what it finds is left out (Debian's package {package})",
+          file=sys.stderr)
 
 
 def of_shell(paths: Sequence[str]) -> list[str]:

@@ -1,21 +1,29 @@
 #!/usr/bin/env python3
-"""Finds names that stand for two things: a type (struct, enum, type, trait, of src/) or a public definition (of specs/) of one name in two crates. It
-holds them against tools/shared_names.txt, a list that may only shrink: a name that isn't listed stands in one crate, and one that is listed in no
-others than are listed.
+"""Finds names that stand for two things: a type (struct, enum, type, trait, of src/) or a public definition (of specs/)
+of one name in two crates. It holds them against tools/shared_names.txt, a list that may only shrink: a name that isn't
+listed stands in one crate, and one that is listed in no others than are listed.
 
-    tools/names.py            prints each, with where it stands and what is said of it there; first those that most crates name that stand on two of its
-                              crates, so that a reader there has to know which is meant
-    tools/names.py --check    prints where a name stands in more crates than are listed, or in fewer, and fails where it prints something
+    tools/names.py            prints each, with where it stands and what is said of it there; first those that most
+                              crates name that stand on two of its crates, so that a reader there has to know which is
+                              meant
+    tools/names.py --check    prints where a name stands in more crates than are listed, or in fewer, and fails where it
+                              prints something
     tools/names.py --write    writes the list anew
 
-Crates of tests alone (NAME_tests) aren't looked at, nor names of a part that each crate of a kind has for itself (ROLES). A type and the definition
-that tells its value stand in one crate, and are one thing.
+Crates of tests alone (NAME_tests) aren't looked at, nor names of a part that each crate of a kind has for itself
+(ROLES). A type and the definition that tells its value stand in one crate, and are one thing.
 """
+from __future__ import annotations
+
 import re
 import sys
 
 import build
 import making
+
+TYPE_CHECKING = False
+if TYPE_CHECKING:
+    from typing import Iterable, Iterator
 
 LISTED = "tools/shared_names.txt"
 HEAD = """\
@@ -36,13 +44,13 @@ MODULE = re.compile(r"\bRattle(?:\.\w+)+")
 class Place:
     """Where a name is declared: the crate, the file, and what is said of it in the comment above."""
 
-    def __init__(self, crate, file, said):
+    def __init__(self, crate: str, file: str, said: str) -> None:
         self.crate, self.file, self.said = crate, file, said
 
 
-def comment_before(text, at):
+def comment_before(text: str, at: int) -> str:
     """Returns the comment in the lines above a place of a text, past its attributes."""
-    lines = []
+    lines: list[str] = []
     for line in reversed(text[:at].splitlines()):
         said = SAID.fullmatch(line)
         if said and not line.startswith("//!"):
@@ -52,7 +60,7 @@ def comment_before(text, at):
     return " ".join(reversed(lines))
 
 
-def declared_in(crate, file, text):
+def declared_in(crate: str, file: str, text: str) -> Iterator[tuple[str, Place]]:
     """Yields each name that a file declares, and where."""
     for found in (TYPE if file.endswith(".rt") else DEFINITION).finditer(text):
         start = text.rfind("\n", 0, found.start(1)) + 1
@@ -60,75 +68,86 @@ def declared_in(crate, file, text):
             yield found[1], Place(crate, file, comment_before(text, start))
 
 
-def shared_in(files):
+def shared_in(files: Iterable[making.File]) -> dict[str, list[Place]]:
     """Returns the places of each name that is declared in two crates, from crates, paths and texts."""
-    found = {}
+    found: dict[str, list[Place]] = {}
     for crate, file, text in files:
         if not crate.endswith("_tests"):
             for name, place in declared_in(crate, file, text):
                 found.setdefault(name, []).append(place)
-    return {name: places for name, places in found.items() if name not in ROLES and len({it.crate for it in places}) > 1}
+    return {name: places for name, places in found.items()
+            if name not in ROLES and len({it.crate for it in places}) > 1}
 
 
-def crates_of(shared):
+def crates_of(shared: dict[str, list[Place]]) -> dict[str, list[str]]:
     """Returns the crates of each name, in order."""
     return {name: sorted({it.crate for it in places}) for name, places in sorted(shared.items())}
 
 
-def read_listed(text):
+def read_listed(text: str) -> dict[str, list[str]]:
     """Returns the crates that the list has for each name."""
     rows = [line.split() for line in text.splitlines() if line.strip() and not line.startswith("#")]
     return {name: crates for name, *crates in rows}
 
 
-def differences(found, listed):
+def differences(found: dict[str, list[str]], listed: dict[str, list[str]]) -> list[str]:
     """Returns a sentence for each name that stands in other crates than the list says."""
     said = []
     for name in sorted({*found, *listed}):
         now, then = set(found.get(name, ())), set(listed.get(name, ()))
         if now - then:
-            said.append(f"{name} stands for two things, in {' and '.join(sorted(now))}: give the new one a name of its own")
+            where = " and ".join(sorted(now))
+            said.append(f"{name} stands for two things, in {where}: give the new one a name of its own")
         elif then - now:
-            said.append(f"{name} doesn't stand in {' and '.join(sorted(then - now))} beside another any more: run tools/names.py --write")
+            where = " and ".join(sorted(then - now))
+            said.append(f"{name} doesn't stand in {where} beside another any more: run tools/names.py --write")
     return said
 
 
-def below(libraries):
-    """Returns of each crate itself and all on which it stands, from the libraries that each lists, where a crate stands behind those on which it stands."""
-    found = {}
+def below(libraries: dict[str, list[str]]) -> dict[str, set[str]]:
+    """Returns of each crate itself and all on which it stands, from the libraries that each lists, where a crate stands
+    behind those on which it stands."""
+    found: dict[str, set[str]] = {}
     for crate, listed in libraries.items():
         found[crate] = {crate}.union(*(found.get(it, ()) for it in listed))
     return found
 
 
-def listing(shared, files, libraries):
-    """Returns a line for each name and each of its places; first the names that most crates name that stand on two of the places' crates."""
-    named, reach = {name: {} for name in shared}, below(libraries)
+def naming(shared: dict[str, list[Place]], files: list[making.File]) -> dict[str, dict[str, int]]:
+    """Returns for each name in how many files of each crate it stands."""
+    named: dict[str, dict[str, int]] = {name: {} for name in shared}
     for crate, _, text in files:
         for name in set(WORD.findall(MODULE.sub("", text))) & named.keys():
             named[name][crate] = named[name].get(crate, 0) + 1
-    rows = []
+    return named
+
+
+def listing(shared: dict[str, list[Place]], files: list[making.File], libraries: dict[str, list[str]]) -> list[str]:
+    """Returns a line for each name and each of its places; first the names that most crates name that stand on two of
+    the places' crates."""
+    named, reach, rows = naming(shared, files), below(libraries), []
     for name, places in shared.items():
         own = {it.crate for it in places}
         between = sum(len(own & reach.get(crate, set())) > 1 for crate in named[name])
-        rows.append((-between, -sum(named[name].values()), name))
+        rows.append((between, sum(named[name].values()), name))
     lines = []
-    for between, count, name in sorted(rows):
-        lines.append(f"{name}: {-between} crates stand on two that have it, {-count} files name it")
+    for between, count, name in sorted(rows, key=lambda row: (-row[0], -row[1], row[2])):
+        lines.append(f"{name}: {between} crates stand on two that have it, {count} files name it")
         lines += [f"    {it.file}: {it.said}" for it in shared[name]]
     return lines
 
 
-def main(words):
+def main(words: list[str]) -> int:
     files = list(making.files_of(("src", "specs")))
     shared = shared_in(files)
     if words == ["--write"]:
         with open(f"{making.ROOT}/{LISTED}", "w", encoding="utf-8") as file:
-            file.write(HEAD + "".join(f"{name} {' '.join(crates)}\n" for name, crates in crates_of(shared).items()))
+            file.write(HEAD)
+            file.writelines(f"{name} {' '.join(crates)}\n" for name, crates in crates_of(shared).items())
         return 0
     if words == ["--check"]:
         said = differences(crates_of(shared), read_listed(making.read(LISTED)))
-        print(*[f"names: {it}" for it in said], sep="\n", end="\n" * bool(said), file=sys.stderr)
+        making.tell("names", said)
         return 1 if said else 0
     if words:
         print(__doc__, file=sys.stderr)

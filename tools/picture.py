@@ -1,12 +1,15 @@
 #!/usr/bin/env python3
-"""Makes the picture of the crates in docs/MAP.md from crates.txt, whose families begin with a line `# NAME` behind an empty one.
+"""Makes the picture of the crates in docs/MAP.md from crates.txt, whose families begin with a line `# NAME` behind an
+empty one.
 
     tools/picture.py           writes it
     tools/picture.py --check   prints where the page doesn't have it, and fails where it prints something
 
-Crates of tests alone (NAME_tests) aren't drawn. The picture says that a crate stands on crates of lower rows, and on crates before it in its own: so a
-crate that crates.txt has before one on which it stands is told too.
+Crates of tests alone (NAME_tests) aren't drawn. The picture says that a crate stands on crates of lower rows, and on
+crates before it in its own: so a crate that crates.txt has before one on which it stands is told too.
 """
+from __future__ import annotations
+
 import sys
 import textwrap
 
@@ -15,11 +18,14 @@ import making
 PAGE = "docs/MAP.md"
 MARGIN, WIDTH = 18, 140
 BETWEEN = " " * (MARGIN + 5) + "|\n"
+# A family: its name, and its crates with those on which each stands.
+Family = tuple[str, dict[str, list[str]]]
 
 
-def families_in(text):
-    """Returns the families of crates, each a name and its crates with those on which each stands, in order."""
-    families, is_behind_empty = [], False
+def families_in(text: str) -> list[Family]:
+    """Returns the families of crates, in order."""
+    families: list[Family] = []
+    is_behind_empty = False
     for line in text.splitlines():
         name, colon, libraries = line.partition(":")
         if line.startswith("# ") and is_behind_empty:
@@ -30,7 +36,7 @@ def families_in(text):
     return families
 
 
-def drawn(families):
+def drawn(families: list[Family]) -> str:
     """Returns the picture, the highest family first."""
     rows = []
     for name, crates in reversed(families):
@@ -41,20 +47,23 @@ def drawn(families):
     return BETWEEN.join(rows)
 
 
-def misplaced(families):
+def misplaced(families: list[Family]) -> list[str]:
     """Returns a sentence for each crate that stands before one on which it stands."""
-    before, said, every = set(), [], {it for _, crates in families for it in crates}
+    before: set[str] = set()
+    said, every = [], {it for _, crates in families for it in crates}
     for _, crates in families:
         for name, libraries in crates.items():
-            said += [f"crates.txt has {name} before {it}, on which it stands" for it in libraries if it in every and it not in before]
+            behind = [it for it in libraries if it in every and it not in before]
+            said += [f"crates.txt has {name} before {it}, on which it stands" for it in behind]
             before.add(name)
     return said
 
 
-def make():
+def make() -> making.Made:
     """Returns the text of the page with the picture, and the crates that are misplaced."""
     families = families_in(making.read("crates.txt"))
-    return {PAGE: making.with_part(making.read(PAGE), "picture", f"\n```\n{drawn(families)}```\n", PAGE)}, misplaced(families)
+    page = making.with_part(making.read(PAGE), "picture", f"\n```\n{drawn(families)}```\n", PAGE)
+    return {PAGE: page}, misplaced(families)
 
 
 if __name__ == "__main__":

@@ -3,8 +3,9 @@
 
     tools/run_tests.py [--without-program | --with-program] [FOLDER..]
 
-Without words: all folders; those with the program are left out, with a line on the error stream, where there is none. With FOLDER, as `update` or
-`planner_tools/update/tests`: those alone. The program is the one that PLANNER names, otherwise that of the checkout. Nothing is built.
+Without words: all folders; those with the program are left out, with a line on the error stream, where there is none.
+With FOLDER, as `update` or `planner_tools/update/tests`: those alone. The program is the one that PLANNER names,
+otherwise that of the checkout. Nothing is built.
 Of each group folders run side by side, those of one group behind those of the one before.
 Exit status: 0 all tests passed, 1 some didn't, 2 wrong words.
 """
@@ -22,7 +23,8 @@ sys.dont_write_bytecode = True
 
 from planner_tools import program  # noqa: E402
 
-# Folders of tests that need no program, and those that do; those of a line run side by side. Behind `:` stands the pattern of names of files.
+# Folders of tests that need no program, and those that do; those of a line run side by side. Behind `:` stands the
+# pattern of names of files.
 WITHOUT_PROGRAM = [["tools", "bench", "reliability/tests"]]
 WITH_PROGRAM = [
     ["planner_tools/tests", "planner_tools/intent/tests", "planner_tools/switches/tests", "planner_tools/page/tests"],
@@ -41,18 +43,21 @@ def command_of(tests: str) -> tuple[str, list[str]]:
 
 
 def run_beside(group: list[str], environment: dict[str, str]) -> bool:
-    """Runs the tests of some folders side by side, and prints what each has said, one behind the other. Whether all passed."""
+    """Runs the tests of some folders side by side, and prints what each has said, one behind the other. Whether all
+    passed."""
     with tempfile.TemporaryDirectory(prefix="planner-tests-") as room:
         started = []
         for number, tests in enumerate(group):
             folder, words = command_of(tests)
             with open(os.path.join(room, str(number)), "wb") as said:
-                started.append(subprocess.Popen(words, cwd=os.path.join(ROOT, folder), env=environment, stdout=said, stderr=subprocess.STDOUT))
+                at = os.path.join(ROOT, folder)
+                run = subprocess.Popen(words, cwd=at, env=environment, stdout=said, stderr=subprocess.STDOUT)
+                started.append((tests, run))
         is_good = True
-        for number, (tests, run) in enumerate(zip(group, started)):
+        for number, (tests, run) in enumerate(started):
             is_good &= run.wait() == 0
-            with open(os.path.join(room, str(number)), encoding="utf-8", errors="replace") as said:
-                print(f"== tests of {tests}\n{said.read()}", end="", flush=True)
+            with open(os.path.join(room, str(number)), encoding="utf-8", errors="replace") as text:
+                print(f"== tests of {tests}\n{text.read()}", end="", flush=True)
     return is_good
 
 
@@ -68,7 +73,8 @@ def program_path() -> str | None:
 
 def chosen(groups: list[list[str]], folders: list[str]) -> list[list[str]]:
     """The tests of some folders among groups of tests; without folders all."""
-    return [[tests for tests in group if not folders or any(is_meant(tests, one) for one in folders)] for group in groups]
+    return [[tests for tests in group if not folders or any(is_meant(tests, one) for one in folders)]
+            for group in groups]
 
 
 def is_meant(tests: str, word: str) -> bool:
@@ -79,7 +85,8 @@ def is_meant(tests: str, word: str) -> bool:
 
 
 def main(words: list[str]) -> int:
-    parser = argparse.ArgumentParser(prog="run_tests.py", description=__doc__, formatter_class=argparse.RawDescriptionHelpFormatter)
+    form = argparse.RawDescriptionHelpFormatter
+    parser = argparse.ArgumentParser(prog="run_tests.py", description=__doc__, formatter_class=form)
     which = parser.add_mutually_exclusive_group()
     which.add_argument("--without-program", action="store_true")
     which.add_argument("--with-program", action="store_true")

@@ -1,4 +1,6 @@
 """Tests of contracts.py: which lines are long, which functions wide, and what is said where the list differs."""
+from __future__ import annotations
+
 import unittest
 
 import contracts
@@ -36,21 +38,25 @@ impl Model for Four {
 
 
 class Counted(unittest.TestCase):
-    def test_only_lines_of_clauses_count(self):
+    def test_only_lines_of_clauses_count(self) -> None:
         self.assertEqual(contracts.long_lines(CODE), [3, 6, 27])
 
-    def test_a_function_has_the_arguments_between_its_own_commas(self):
+    def test_a_function_has_the_arguments_between_its_own_commas(self) -> None:
         self.assertEqual(contracts.wide_functions(CODE), ["two", "three"])
-        self.assertEqual([contracts.arguments_of(text, 1) for text in ("()", "(a: u8)", "(a: u8, b: fn(u8, u8) -> u8,)")], [0, 1, 2])
+        for text, count in (("()", 0), ("(a: u8)", 1), ("(a: u8, b: fn(u8, u8) -> u8,)", 2)):
+            self.assertEqual(contracts.arguments_of(text, 1), count)
 
 
 class Listed(unittest.TestCase):
-    def test_a_crate_that_is_not_listed_has_none(self):
+    def test_a_crate_that_is_not_listed_has_none(self) -> None:
         self.assertEqual(contracts.read_listed("# crate lines functions\n\none 3 1\n"), {"one": (3, 1)})
         self.assertEqual(contracts.differences({"one": (3, 1)}, {"one": (3, 1)}), [])
-        self.assertEqual(contracts.differences({"two": (1, 0)}, {}), ["two has 1 long contract lines, 0 at most are listed: break the new ones"])
+        self.assertEqual(
+            contracts.differences({"two": (1, 0)}, {}),
+            ["two has 1 long contract lines, 0 at most are listed: break the new ones"],
+        )
 
-    def test_the_list_goes_down_with_the_crates(self):
+    def test_the_list_goes_down_with_the_crates(self) -> None:
         self.assertEqual(
             contracts.differences({}, {"one": (0, 2)}),
             ["one has 0 functions of more than six arguments, and 2 are listed: run tools/contracts.py --write"],

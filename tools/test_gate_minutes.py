@@ -1,4 +1,6 @@
 """Tests of gate_minutes.py: which work a process does, and the table of a log."""
+from __future__ import annotations
+
 import unittest
 
 import gate_minutes
@@ -17,7 +19,7 @@ LOG = """     1 == one
 
 
 class Minutes(unittest.TestCase):
-    def test_work_is_told_by_the_words_and_the_folder(self):
+    def test_work_is_told_by_the_words_and_the_folder(self) -> None:
         words = ["rattle", "build", "--crate-name", "one", "src/lib.rt"]
         for given, folder, wanted in [
             (words, "/top/crates/one", ("one", "proof")),
@@ -28,15 +30,15 @@ class Minutes(unittest.TestCase):
         ]:
             self.assertEqual(gate_minutes.kind_of(given, folder), wanted)
 
-    def test_seconds_of_a_process_are_its_own_and_those_of_ended_children(self):
+    def test_seconds_of_a_process_are_its_own_and_those_of_ended_children(self) -> None:
         # (fields are counted from 1: the parent is field 4, the times are fields 14 to 17)
         text = "7 (a (b) c) S 5 " + " ".join(map(str, range(5, 50)))
         self.assertEqual(gate_minutes.parse_stat(text), (5, (14 + 15 + 16 + 17) / gate_minutes.TICKS))
 
-    def test_all_below_a_process(self):
+    def test_all_below_a_process(self) -> None:
         self.assertEqual(sorted(gate_minutes.below(1, {2: (1, 0), 3: (2, 0), 4: (9, 0), 5: (3, 0)})), [2, 3, 5])
 
-    def test_table(self):
+    def test_table(self) -> None:
         self.assertEqual(
             gate_minutes.table(*gate_minutes.read_log(LOG.splitlines())),
             [
@@ -48,7 +50,7 @@ class Minutes(unittest.TestCase):
             ],
         )
 
-    def test_seconds_of_the_longest_proof(self):
+    def test_seconds_of_the_longest_proof(self) -> None:
         logs = [LOG.splitlines(), ["## 9 one proof 75 80", "## 10 third tests 5 5"]]
         self.assertEqual(gate_minutes.seconds_by_crate(logs), ["other 120", "one 75"])
 

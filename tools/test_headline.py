@@ -1,7 +1,10 @@
 """Tests of headline.py, over a small repository."""
+from __future__ import annotations
+
 import os
 import tempfile
 import unittest
+from unittest import mock
 
 import headline
 
@@ -95,7 +98,7 @@ Start places = IsGood places 1 × AreOpen places
 
 
 class Page(unittest.TestCase):
-    def setUp(self):
+    def setUp(self) -> None:
         self.room = tempfile.TemporaryDirectory()
         for file, text in FILES.items():
             path = f"{self.room.name}/crates/{file}"
@@ -104,13 +107,13 @@ class Page(unittest.TestCase):
                 it.write(text)
         self.specs = headline.Specs(self.room.name)
 
-    def tearDown(self):
+    def tearDown(self) -> None:
         self.room.cleanup()
 
-    def names(self, name):
+    def names(self, name: str) -> list[str]:
         return [it.name for it in self.specs.cited(self.specs.named(name))]
 
-    def test_what_a_definition_cites(self):
+    def test_what_a_definition_cites(self) -> None:
         self.assertEqual(self.names("Start"), ["Places", "IsGood", "AreOpen"])
         # (a parameter of the name is no definition, and a part of a record only behind its own line)
         self.assertEqual(self.names("IsGood"), ["Places", "half"])
@@ -118,42 +121,48 @@ class Page(unittest.TestCase):
         self.assertEqual(self.names("half"), ["Place", "◌&◌"])
         self.assertEqual(self.names("number"), ["unused"])
 
-    def test_types_are_shown_as_declared_or_as_contracts_see_them(self):
+    def test_types_are_shown_as_declared_or_as_contracts_see_them(self) -> None:
         places, place = self.specs.declared("low", "", "Places"), self.specs.declared("low", "", "Place")
         self.assertEqual(headline.shown(places), "/// Places.\npub struct Places, seen as List Place")
-        self.assertEqual(headline.shown(place), "/// A place.\npub struct Place {\n    pub number: u32,\n    /// How it is.\n    pub state: State,\n}")
+        self.assertEqual(
+            headline.shown(place),
+            "/// A place.\npub struct Place {\n    pub number: u32,\n    /// How it is.\n    pub state: State,\n}",
+        )
         self.assertEqual([it.name for it in self.specs.cited(places)], ["Place"])
         self.assertEqual([it.name for it in self.specs.cited(place)], ["State"])
 
-    def test_an_operator_stands_with_its_comment(self):
-        self.assertTrue(headline.shown(self.specs.named("◌&◌")).startswith("-- twice: one behind the other\ninfixl 5 ◌&◌\nabbrev pub ◌&◌ :"))
+    def test_an_operator_stands_with_its_comment(self) -> None:
+        text = headline.shown(self.specs.named("◌&◌"))
+        self.assertTrue(text.startswith("-- twice: one behind the other\ninfixl 5 ◌&◌\nabbrev pub ◌&◌ :"))
 
-    def test_order_goes_from_words_to_what_they_are_made_of(self):
-        leads = {"a": ["c", "b"], "b": ["c"], "c": ["d"], "d": []}
-        self.assertEqual(headline.in_order(["a"], leads.get), ["a", "b", "c", "d"])
-        self.assertEqual(headline.in_order(["a"], {"a": ["b", "c"], "b": [], "c": []}.get), ["a", "b", "c"])
+    def test_order_goes_from_words_to_what_they_are_made_of(self) -> None:
+        leads: dict[str, list[str]] = {"a": ["c", "b"], "b": ["c"], "c": ["d"], "d": []}
+        self.assertEqual(headline.in_order(["a"], leads.__getitem__), ["a", "b", "c", "d"])
+        leads = {"a": ["b", "c"], "b": [], "c": []}
+        self.assertEqual(headline.in_order(["a"], leads.__getitem__), ["a", "b", "c"])
 
-    def test_the_page(self):
-        parts, headline.PARTS = headline.PARTS, (("One", "First.", ("AreOpen",)), ("Two", "Second.", ("Start",)))
-        try:
+    def test_the_page(self) -> None:
+        parts = (("One", "First.", ("AreOpen",)), ("Two", "Second.", ("Start",)))
+        with mock.patch.object(headline, "PARTS", parts):
             text, rows, untold = headline.page(self.specs)
-        finally:
-            headline.PARTS = parts
         self.assertEqual(rows, [("One", 2, 5, 2, 9, 3), ("Two", 4, 11, 1, 1, 3), ("All", 6, 16, 3, 10, 3)])
         self.assertEqual(untold, [])
-        self.assertIn("## 1. One\n\nFirst.\n\n### crates/high/specs/Good.antt\n\nGood places, in two lines.\n\n```text\n-- open\nabbrev pub AreOpen", text)
+        self.assertIn("## 1. One\n\nFirst.\n\n### crates/high/specs/Good.antt\n\nGood places, in two lines.\n\n"
+                      "```text\n-- open\nabbrev pub AreOpen", text)
         self.assertLess(text.index("### crates/low/specs/Lists.antt"), text.index("pub enum State"))
         self.assertNotIn("Not cited", text)
         self.assertNotIn("unused", text)
 
-    def test_counts_stand_between_their_marks(self):
-        rows = [("One part", 2, 40, 3, 7, 5), ("Other part", 4, 5, 6, 7, 8), ("All", 9, 9, 9, 9, 9)]
-        wanted = "a <!-- counts -->2 (40) for one part, 4 (5) for other part, and 9 types that the code declares<!-- /counts --> b"
+    def test_counts_stand_between_their_marks(self) -> None:
+        rows = [("One part", 2, 40, 3, 7, 5), ("Other part", 4, 5, 6, 7, 8), ("Runs", 1, 2, 0, 0, 1),
+                ("The wire", 3, 4, 0, 0, 1), ("All", 9, 9, 9, 9, 9)]
+        wanted = ("a <!-- counts -->The first claim has 6 (45 lines), the second 4 more (6 lines), which name 9 types "
+                  "that the code declares.<!-- /counts --> b")
         self.assertEqual(headline.with_counts("a <!-- counts -->old\ntext<!-- /counts --> b", rows), wanted)
         with self.assertRaises(LookupError):
             headline.with_counts("no marks", rows)
 
-    def test_a_name_that_is_lost_is_told(self):
+    def test_a_name_that_is_lost_is_told(self) -> None:
         with self.assertRaisesRegex(LookupError, "Gone is defined 0 times"):
             self.specs.named("Gone")
 

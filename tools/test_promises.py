@@ -1,4 +1,6 @@
 """Tests of promises.py: what is a row of the table, and that docs/PROVED.md has the rows of every command."""
+from __future__ import annotations
+
 import unittest
 
 import making
@@ -32,27 +34,27 @@ pub record Last : Type 0 where
 
 
 class Promises(unittest.TestCase):
-    def test_a_comment_speaks_of_the_fields_down_to_the_next_one(self):
+    def test_a_comment_speaks_of_the_fields_down_to_the_next_one(self) -> None:
         self.assertEqual(promises.groups_in(TEXT, "OnePromise"), [
             ("Done comes exactly where the files are read, in the order of docs/FORMATS.md.", ["done"]),
             ("The line a|b says why (`OtherLine`).", ["first", "first_only"]),
         ])
 
-    def test_a_field_has_a_comment(self):
+    def test_a_field_has_a_comment(self) -> None:
         with self.assertRaisesRegex(LookupError, "none of Other has no comment"):
             promises.groups_in(TEXT, "Other")
         with self.assertRaisesRegex(LookupError, "no record TwoPromise"):
             promises.groups_in(TEXT, "TwoPromise")
 
-    def test_a_document_is_linked_and_a_stroke_ends_no_cell(self):
+    def test_a_document_is_linked_and_a_stroke_ends_no_cell(self) -> None:
         self.assertEqual(promises.cell("a|b of docs/FORMATS.md."), "a\\|b of [FORMATS.md](FORMATS.md).")
 
-    def test_a_definition_that_a_comment_names_is_one(self):
+    def test_a_definition_that_a_comment_names_is_one(self) -> None:
         comment = "`OtherLine`, `Last` and `good`; `KIND`, NotARun"
         self.assertEqual(promises.undefined_in(comment, TEXT), ["OtherLine"])
         self.assertEqual(promises.undefined_in(comment, "abbrev pub OtherLine : Type 0"), [])
 
-    def test_each_field_of_each_promise_is_in_the_page(self):
+    def test_each_field_of_each_promise_is_in_the_page(self) -> None:
         page = making.read(promises.PAGE)
         for row in ROWS:
             with self.subTest(row.name):
