@@ -13,7 +13,7 @@ _planner() {
             pack) options="--wait $options" ;;
             adopt) options="--switches --listen --own --patience --yes --dry-run $options" ;;
             collect) options="--switches --listen --patience $options" ;;
-            apply) options="--switches --listen --wait --ask --patience --resume --back --recover --repair --take-over --no-mark $options" ;;
+            apply) options="--switches --listen --wait --ask --patience --resume --back --recover --without --repair --take-over --no-mark $options" ;;
             links) options="--empty $options" ;;
             policy) options="--through --changed --most $options" ;;
             route) options="--drain --weights --from $options" ;;
@@ -23,7 +23,7 @@ _planner() {
             from-mininet) options="--hosts --vlans --tags --capacity $options" ;;
             from-graphml) options="--hosts --external --vlans --tags --capacity --names --distances --speeds $options" ;;
             to-ofctl) options="--switches $options" ;;
-            update) options="--switches --listen --wait --ask --patience --yes --dry-run --ordered --two-phase $options" ;;
+            update) options="--switches --listen --wait --ask --patience --yes --dry-run --ordered --two-phase --without $options" ;;
         esac
         mapfile -t COMPREPLY < <(compgen -W "$options" -- "${COMP_WORDS[COMP_CWORD]}")
         return

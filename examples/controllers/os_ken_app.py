@@ -25,8 +25,7 @@ class Updates(app_manager.OSKenApp):
         super().__init__(*words, **more)
         with open(os.environ["PLANNER_JOB"], encoding="utf-8") as file:
             self.job = json.load(file)
-        self.datapaths, self.session = {}, None
-        self.work = hub.spawn(self.lead)
+        self.datapaths, self.session, self.work = {}, None, hub.spawn(self.lead)
 
     def send(self, name, data):
         if name in self.datapaths and data[1] != 0:          # os_ken says HELLO itself
@@ -38,21 +37,21 @@ class Updates(app_manager.OSKenApp):
         name = self.job["datapaths"].get(f"{event.datapath.id or 0:016x}")
         if name is not None and event.state == MAIN_DISPATCHER:
             event.datapath.xid = planner.OWN_XIDS[0]         # from here on os_ken numbers messages of its own
-            self.datapaths[name] = event.datapath
-            if self.session is not None and self.job.get("keeps_tables"):
-                hub.spawn_after(STANDS, self.go_on, name, event.datapath)
+            if self.session is None or self.job.get("keeps_tables"):         # otherwise nothing is sent to it any more
+                hub.spawn_after(STANDS if self.session else 0, self.go_on, name, event.datapath)
         elif name is not None and self.datapaths.get(name) is event.datapath:
             del self.datapaths[name]
 
     def go_on(self, name, datapath):
-        if self.session is not None and self.datapaths.get(name) is datapath:
-            self.session.reopen(name)
-            self.session.feed(name, planner.HELLO)
+        if datapath.state == MAIN_DISPATCHER:
+            _ = self.session and self.session.reopen(name)
+            self.datapaths[name] = datapath                  # only now: what was meant for the old one isn't for it
+            _ = self.session and self.session.feed(name, planner.HELLO)
 
     @set_ev_cls([ofp_event.EventOFPBarrierReply, ofp_event.EventOFPErrorMsg], MAIN_DISPATCHER)
     def answered(self, event):
         name = self.job["datapaths"].get(f"{event.msg.datapath.id:016x}")
-        if self.session is not None and name is not None:
+        if self.session is not None and self.datapaths.get(name) is event.msg.datapath:
             for one in self.session.feed(name, bytes(event.msg.buf)).events:
                 told = one.kind, one.round, one.switch or "", one.do or "", one.rule or one.cause or ""
                 self.logger.info("%s round %d %s %s %s", *told)
@@ -62,6 +61,7 @@ class Updates(app_manager.OSKenApp):
         for old, target in zip([self.job["old"], *self.job["targets"]], self.job["targets"]):
             files = self.job["topology"], old, target, self.job["policy"]
             answer = tpool.execute(planner.pack, *files)
+            list(map(self.logger.warning, map(str, answer.warnings)))    # sockets.py stops where there are any
             if not answer:
                 return self.logger.error("%s", answer)
             while len(self.datapaths) < len(self.job["datapaths"]):
