@@ -1,4 +1,4 @@
-"""The table of the program's commands, from which tools/commands.py writes what planner_run says of each.
+"""The table of the program's commands, from which tools/commands.py writes what planner_cli says of each.
 
 A command has a row in ROWS, in the order in which the program knows them. Its words are one of WORDS, which several
 commands may share; what its files mean, and the dialogue in which it reads them, one of MEANINGS. A definition is named

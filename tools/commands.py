@@ -1,8 +1,8 @@
 #!/usr/bin/env python3
-"""Writes what planner_run says of each command, from the table of tools/command_table.py and the templates of
+"""Writes what planner_cli says of each command, from the table of tools/command_table.py and the templates of
 tools/templates.
 
-    tools/commands.py           writes the files, and the libraries of planner_run in crates.txt
+    tools/commands.py           writes the files, and the libraries of planner_cli in crates.txt
     tools/commands.py --check   prints those that aren't what it would write, and fails where it prints one
 
 A line `@each KIND TEXT` of a template, or a run of such lines, stands for the text once for each command of that kind:
@@ -22,7 +22,7 @@ TYPE_CHECKING = False
 if TYPE_CHECKING:
     from typing import Iterable, Sequence
 
-CRATE = "crates/planner_run"
+CRATE = "crates/planner_cli"
 # The template of each file.
 FILES = {
     f"{CRATE}/specs/Commands.antt": "Commands.antt.template",
@@ -36,7 +36,7 @@ KINDS: dict[str, tuple[str, ...]] = {
     "reads": ("answers", "serves"),
     **{it: (it,) for it in ("answers", "serves", "reads_none")},
 }
-# What planner_run uses besides the crates of the commands.
+# What planner_cli uses besides the crates of the commands.
 OTHER_LIBRARIES = ("file_access", "certificates", "command_base", "check_base")
 # What its code brings besides.
 OTHER_CALLS = (
@@ -201,10 +201,10 @@ def written(template: str, rows: Sequence[Row] = ROWS) -> str:
 
 
 def with_libraries(text: str, rows: Sequence[Row] = ROWS) -> str:
-    """Returns the text of crates.txt with the libraries of planner_run."""
+    """Returns the text of crates.txt with the libraries of planner_cli."""
     own = [name for it in rows for name in (crate_of(it), promise_crate(it))]
     found = dict.fromkeys([*OTHER_LIBRARIES, *own])
-    return re.sub(r"(?m)^planner_run:.*$", f"planner_run: {' '.join(found)}", text)
+    return re.sub(r"(?m)^planner_cli:.*$", f"planner_cli: {' '.join(found)}", text)
 
 
 def texts() -> dict[str, str]:

@@ -65,7 +65,7 @@ HEAD = """# The definitions of the headline
 
 This page has the definitions on which the sentences rest, from their words down to numbers and lists: of runs and good traces, of certified plans, of what the bytes of files mean, of runs both ways, and of the network on the wire. [THEOREMS.md](THEOREMS.md) leads from the words of the sentences to the first of them, and states the premises. Three things say nothing of packets, and aren't on the page:
 
-- how the words of the command line name the files (`asked_command` in crates/planner_run/specs/Commands.antt);
+- how the words of the command line name the files (`asked_command` in crates/planner_cli/specs/Commands.antt);
 - the records of which the sentences are fields (`keeps` of `CheckPromise` in crates/check_command/specs/Promise.antt, `safe_on_the_wire` and `both_ways` of `ServePromise` in crates/law_serve_promise/specs/Promise.antt);
 - which calls of the driver the lines of `serve` ask for, and how what it says is spelled (crates/serve_lines/specs, crates/serve_command/specs).
 

@@ -1,4 +1,4 @@
-"""Tests of commands.py: how a template is filled, that the files of planner_run are what it writes, and that no command
+"""Tests of commands.py: how a template is filled, that the files of planner_cli are what it writes, and that no command
 is left out elsewhere."""
 from __future__ import annotations
 
@@ -51,18 +51,18 @@ class Templates(unittest.TestCase):
 
     def test_the_libraries_are_those_of_the_commands(self) -> None:
         self.assertEqual(
-            commands.with_libraries("one: two\nplanner_run: old\nplanner_cli: planner_run\n", ROWS),
-            "one: two\nplanner_run: file_access certificates command_base check_base check_command simulate_command "
-            "serve_command law_serve_promise sample_command\nplanner_cli: planner_run\n",
+            commands.with_libraries("one: two\nplanner_cli: old\n", ROWS),
+            "one: two\nplanner_cli: file_access certificates command_base check_base check_command simulate_command "
+            "serve_command law_serve_promise sample_command\n",
         )
 
 
-# Where each command has to be named, and how: in its crate of tests, through the top call, in the documents, among what
-# is said of wrong files and words, and, of one that reads lines, in the scripts that attack it. The tests of the front
-# end and the attacks run any other command by its usage.
+# Where each command has to be named, and how: in its crate of tests, in the tests of whole runs, in the documents, among
+# what is said of wrong files and words, and, of one that reads lines, in the scripts that attack it. The tests of the
+# front end and the attacks run any other command by its usage.
 PLACES = {
     "crates.txt": r"(?m)^\w+_tests:.* %s_command\b",
-    "crates/planner_run_tests/src/tests.rt": r'"%s[" ]',
+    "planner_tools/tests/test_runs.py": r'"%s"',
     "docs/FORMATS.md": r"`%s[` ]",
     "docs/TOUR.md": r"\bplanner %s\b",
     "planner_tools/tests/said.txt": r"(?m)^run %s\b",

@@ -1,9 +1,12 @@
-//! The program: it reads the words of the command line and the files that they name, and writes one answer.
+//! The program: it reads the words of the command line and the files that they name, and writes one answer. The top call is `run`.
 #![tactic(auto)]
 
+mod command;
+mod run;
+
+use crate::run::run;
 use command_base::Status;
 use file_access::{FileSource, StdoutSink};
-use planner_run::run::run;
 use std::process::ExitCode;
 use std::rt::Env;
 use std::{env, io};

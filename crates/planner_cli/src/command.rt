@@ -1,6 +1,6 @@
 //! The words of the command line.
 ghost use Rattle.std.specs.Prelude.{◌≡◌, map, string_bytes, option_map};
-ghost use Rattle.planner_run.specs.Commands.{asked_command, asked_by, name_in, asked_view};
+ghost use Rattle.planner_cli.specs.Commands.{asked_command, asked_by, name_in, asked_view};
 
 use check_base::{CheckNames, check_names};
 use command_base::{PlanNames, UpdateNames, plan_names, update_names};

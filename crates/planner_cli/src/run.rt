@@ -35,7 +35,7 @@ ghost use Rattle.import_command.specs.Promise.{ImportPromise};
 ghost use Rattle.drive_command.specs.Promise.{DrivePromise};
 ghost use Rattle.law_serve_promise.specs.Promise.{ServePromise};
 ghost use Rattle.sample_command.specs.Promise.{SamplePromise};
-ghost use Rattle.planner_run.specs.Commands.{Config, Paths, Check, Certify, Plan, Pack, Upgrade, Emit, Replay, Tables, Trace, Simulate, Explain, Import, Drive, Serve, Sample, AsksToServe, NamesNoFile, asked_command, asked_view, dialogue, dialogue_of, IsSaid, usage_line};
+ghost use Rattle.planner_cli.specs.Commands.{Config, Paths, Check, Certify, Plan, Pack, Upgrade, Emit, Replay, Tables, Trace, Simulate, Explain, Import, Drive, Serve, Sample, AsksToServe, NamesNoFile, asked_command, asked_view, dialogue, dialogue_of, IsSaid, usage_line};
 
 use crate::command::{Command, command_of};
 use certify_command::certify;

@@ -22,9 +22,9 @@ use Rattle.tables_command.specs.Listed.{IsTablesAnswer}
 use Rattle.simulate_command.specs.Simulated.{IsSimulateAnswer}
 use Rattle.explain_command.specs.Explained.{IsExplainAnswer}
 use Rattle.sample_command.specs.Summaries.{SaysSummary}
-use Rattle.planner_run.specs.Commands.{Config, Paths, Check, Certify, Plan, Pack, Upgrade, Emit, Replay, Tables, Trace, Simulate, Explain, Import, Drive, Sample, OfConfig, OfPaths, OfCheck, OfCertify, OfPlan, OfPack, OfUpgrade, OfEmit, OfReplay, OfTables, OfTrace, OfSimulate, OfExplain, OfImport, OfDrive, OfSample, NamesNoFile, IsSaid}
-use Rattle.planner_run.proofs.Answered.{answered, unserved, ended}
-use Rattle.planner_run.proofs.run.run.Goals as goal
+use Rattle.planner_cli.specs.Commands.{Config, Paths, Check, Certify, Plan, Pack, Upgrade, Emit, Replay, Tables, Trace, Simulate, Explain, Import, Drive, Sample, OfConfig, OfPaths, OfCheck, OfCertify, OfPlan, OfPack, OfUpgrade, OfEmit, OfReplay, OfTables, OfTrace, OfSimulate, OfExplain, OfImport, OfDrive, OfSample, NamesNoFile, IsSaid}
+use Rattle.planner_cli.proofs.Answered.{answered, unserved, ended}
+use Rattle.planner_cli.proofs.run.run.Goals as goal
 
 pub returns-clause-config : goal.returns-clause-config
 returns-clause-config g c = λ files names tells asks.

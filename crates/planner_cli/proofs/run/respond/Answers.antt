@@ -1,9 +1,9 @@
 use Rattle.std.proofs.Common.{map, string_bytes, inl, inr}
 use Rattle.command_base.specs.Replies.{answer_of}
 use Rattle.command_base.proofs.DialogueLaws.{leads_early}
-use Rattle.planner_run.specs.Commands.{IsSaid, dialogue_of, asked_view}
-use Rattle.planner_run.proofs.Answered.{leads_asked, lacks_asked, leads_usage, wrote_ends, wrote_all, wrote_front}
-use Rattle.planner_run.proofs.run.respond.Goals as goal
+use Rattle.planner_cli.specs.Commands.{IsSaid, dialogue_of, asked_view}
+use Rattle.planner_cli.proofs.Answered.{leads_asked, lacks_asked, leads_usage, wrote_ends, wrote_all, wrote_front}
+use Rattle.planner_cli.proofs.run.respond.Goals as goal
 
 pub returns-in-None-clause-ends : goal.returns-in-None-clause-ends
 returns-in-None-clause-ends g c = λ unserved.

@@ -9,7 +9,7 @@ use Rattle.command_base.specs.Answers.{Answer}
 use Rattle.command_base.specs.Dialogues.{LeadsTo, Lacks}
 use Rattle.command_base.specs.Runs.{IsComplete, EndsAs, Answered, AnswersAll, AnswersFront}
 use Rattle.command_base.proofs.RunLaws.{told_all, told_front}
-use Rattle.planner_run.specs.Commands.{Asked, AsksToServe, asked_command, dialogue, dialogue_of, dialogue_on, IsSaid, usage_line}
+use Rattle.planner_cli.specs.Commands.{Asked, AsksToServe, asked_command, dialogue, dialogue_of, dialogue_on, IsSaid, usage_line}
 
 -- the dialogue of a command is that of the words that ask for it
 pub leads_asked : (held : Option Files) (words : List (List ℕ)) (a : Asked) (answer : Answer) (selected : List ℕ) (taken : ℕ)

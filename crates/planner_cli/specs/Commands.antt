@@ -37,10 +37,10 @@ use Rattle.simulate_command.specs.Simulated.{IsSimulateAnswer}
 use Rattle.explain_command.specs.Explained.{IsExplainAnswer}
 use Rattle.serve_command.specs.Serving.{SaysRefusal}
 use Rattle.sample_command.specs.Summaries.{SaysSummary}
-use Rattle.planner_run.specs.declared.command.Command.{Command}
-use Rattle.planner_run.specs.declared.command.Command.TheVariants as command
-use Rattle.planner_run.specs.declared.command.CommandName.{CommandName}
-use Rattle.planner_run.specs.declared.command.CommandName.TheVariants as command_name
+use Rattle.planner_cli.specs.declared.command.Command.{Command}
+use Rattle.planner_cli.specs.declared.command.Command.TheVariants as command
+use Rattle.planner_cli.specs.declared.command.CommandName.{CommandName}
+use Rattle.planner_cli.specs.declared.command.CommandName.TheVariants as command_name
 
 -- a command, with the names of its files, or the number of switches of a sample
 pub data Asked : Type 0 where

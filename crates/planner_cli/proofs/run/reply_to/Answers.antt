@@ -1,7 +1,7 @@
 use Rattle.command_base.proofs.DialogueLaws.{meets_as}
 use Rattle.command_base.proofs.WholeLaws.{meets_at_once}
-use Rattle.planner_run.specs.Commands.{IsSaid, OfConfig, OfPaths, OfCheck, OfCertify, OfPlan, OfPack, OfUpgrade, OfEmit, OfReplay, OfTables, OfTrace, OfSimulate, OfExplain, OfImport, OfDrive}
-use Rattle.planner_run.proofs.run.reply_to.Goals as goal
+use Rattle.planner_cli.specs.Commands.{IsSaid, OfConfig, OfPaths, OfCheck, OfCertify, OfPlan, OfPack, OfUpgrade, OfEmit, OfReplay, OfTables, OfTrace, OfSimulate, OfExplain, OfImport, OfDrive}
+use Rattle.planner_cli.proofs.run.reply_to.Goals as goal
 
 pub returns-in-Config-clause-meets : goal.returns-in-Config-clause-meets
 returns-in-Config-clause-meets g c = rw c.in-Config.is (meets_as IsSaid OfConfig (λ m answer said. said) c.config.ensures.meets)
