@@ -57,9 +57,9 @@ class Templates(unittest.TestCase):
         )
 
 
-# Where each command has to be named, and how: in its crate of tests, in the tests of whole runs, in the documents, among
-# what is said of wrong files and words, and, of one that reads lines, in the scripts that attack it. The tests of the
-# front end and the attacks run any other command by its usage.
+# Where each command has to be named, and how: in its crate of tests, in the tests of whole runs, in the documents,
+# among what is said of wrong files and words, and, of one that reads lines, in the scripts that attack it. The tests of
+# the front end and the attacks run any other command by its usage.
 PLACES = {
     "crates.txt": r"(?m)^\w+_tests:.* %s_command\b",
     "planner_tools/tests/test_runs.py": r'"%s"',
