@@ -61,7 +61,7 @@ class Templates(unittest.TestCase):
 # among what is said of wrong files and words, and, of one that reads lines, in the scripts that attack it. The tests of
 # the front end and the attacks run any other command by its usage.
 PLACES = {
-    "crates.txt": r"(?m)^\w+_tests:.* %s_command\b",
+    "crates.txt": r"(?m)^\w+_tests staticlib:.* %s_command\b",
     "planner_tools/tests/test_runs.py": r'"%s"',
     "docs/FORMATS.md": r"`%s[` ]",
     "docs/TOUR.md": r"\bplanner %s\b",
