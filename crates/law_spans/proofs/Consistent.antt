@@ -36,7 +36,7 @@ use Rattle.certificates.proofs.Consistency.{packet_consistent}
 use Rattle.certificates.proofs.SameClass.{same_outcomes}
 use Rattle.law_two_way_runs.specs.Laws.{WalkedRound}
 use Rattle.law_spans.specs.Spans.{Span, IsSpan}
-use Rattle.law_spans.specs.TimedWalks.{TimedPlace, IsTimedStep, IsTimedWalk, places_of, switches_met, WalkedInSpan}
+use Rattle.law_spans.specs.TimedWalks.{TimedPlace, IsTimedStep, IsTimedWalk, places_walked, switches_met, WalkedInSpan}
 use Rattle.law_spans.specs.Certificates.{IsSafeInSpan, TwoPhaseSpanCertificate}
 use Rattle.law_spans.specs.Certified.{IsCertifiedWithWaits}
 use Rattle.law_spans.specs.Laws.{IsConsistentWithWaits}
@@ -127,9 +127,9 @@ module _ (t : Task) (first : ℕ) (p : Packet) (same : IsSameClass (blocks_of t.
         subst (λ x. IsPossible (rollout t) walked.start.round p.dst x found) walked.at_is
         (from_first walked.start.round (end_of walked.start walked.rest).place found (ends found (end_to_first found possible))) in
         record {
-          rest = places_of walked.rest;
-          walk = walk_weaker (MayGo (rollout t) walked.start.round first) (MayGo (rollout t) walked.start.round p.dst) (λ x y goes. from_first walked.start.round x (Go y) goes) p.entry (places_of walked.rest) mixed;
-          at_is = ap (λ x. end_of x (places_of walked.rest)) (sym walked.walk.begins) ∙ end_place walked.start walked.rest ∙ walked.at_is;
+          rest = places_walked walked.rest;
+          walk = walk_weaker (MayGo (rollout t) walked.start.round first) (MayGo (rollout t) walked.start.round p.dst) (λ x y goes. from_first walked.start.round x (Go y) goes) p.entry (places_walked walked.rest) mixed;
+          at_is = ap (λ x. end_of x (places_walked walked.rest)) (sym walked.walk.begins) ∙ end_place walked.start walked.rest ∙ walked.at_is;
           visits_are = walked.visits_are ∙ ap (λ x. stop_of x ∷ map (λ (q : TimedPlace). stop_of q.place) walked.rest) walked.walk.begins ∙ ap (λ xs. stop_of p.entry ∷ xs) (stops_are walked.rest);
           ended = ended_in p.ended end walked.ended;
         }

@@ -14,7 +14,7 @@ use Rattle.path_walk.specs.declared.Outcome.TheVariants.{Leave}
 use Rattle.update_model.specs.Mixtures.{Rollout, IsPossible}
 use Rattle.certificates.specs.Ordered.{Position, chain_positions, positions}
 use Rattle.law_spans.specs.Spans.{Span}
-use Rattle.law_spans.specs.TimedWalks.{TimedPlace, IsTimedStep, IsTimedWalk, IsMet, IsStepInSpan, MayLeaveInSpan, switches_met}
+use Rattle.law_spans.specs.TimedWalks.{TimedPlace, IsTimedStep, IsTimedWalk, IsMetInRound, IsStepInSpan, MayLeaveInSpan, switches_met}
 use Rattle.law_spans.specs.Certificates.{AreGuardedInSpan}
 use Rattle.law_spans.proofs.WalkLaws.{met_start, met_end, met_more}
 
@@ -75,7 +75,7 @@ module _ (u : Rollout) (span : Span) (dst : ℕ) (entry : Place) where
       rw append_assoc at all
 
   along : (chain : List SwitchId) (sets : List (List ℕ)) (p : TimedPlace) (rest : List TimedPlace) (seen : List SwitchId)
-      → AllByRecursion Guards (chain_positions None chain sets) → IsMet u span dst entry p → IsWalk (IsTimedStep u span dst) p rest
+      → AllByRecursion Guards (chain_positions None chain sets) → IsMetInRound u span dst entry p → IsWalk (IsTimedStep u span dst) p rest
       → Met [] chain sets seen p.place.switch → Met [] chain sets (seen ++ map (λ (q : TimedPlace). q.place.switch) rest) (end_of p rest).place.switch
   along chain sets p [] seen guards met walk m = rw append-nil m
   along chain sets p (q ∷ rest) seen guards met walk m =

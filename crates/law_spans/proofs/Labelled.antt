@@ -13,7 +13,7 @@ use Rattle.update_model.specs.Mixtures.{Rollout, IsPossible, MayGo, IsMixedWalk,
 use Rattle.certificates.specs.TwoPhase.{place_carrying, outcome_carrying, KeepsPath, tables_of}
 use Rattle.certificates.specs.declared.TwoPhaseEvidence.{TwoPhaseEvidence}
 use Rattle.law_spans.specs.Spans.{Span}
-use Rattle.law_spans.specs.TimedWalks.{TimedPlace, IsTimedStep, IsTimedWalk, places_of}
+use Rattle.law_spans.specs.TimedWalks.{TimedPlace, IsTimedStep, IsTimedWalk, places_walked}
 use Rattle.law_spans.specs.Certificates.{TwoPhaseSpanCertificate}
 
 -- an outcome that goes on is one that goes on, but for the VLAN that is carried
@@ -38,7 +38,7 @@ module _ (u : Rollout) (span : Span) (r dst : ℕ) (tables : List (List Rule)) (
 
   along : (place : Place) → IsReached (Forwards u.net tables dst) first place → (here : TimedPlace) (rest : List TimedPlace) → here.place ≡ place_carrying tag place
       → r ≤ here.round → here.round ≤ span.last → IsWalk (IsTimedStep u span dst) here rest
-      → IsWalk (MayGo u r dst) here.place (places_of rest)
+      → IsWalk (MayGo u r dst) here.place (places_walked rest)
       × ((found : Outcome) → IsPossible u (end_of here rest).round dst (end_of here rest).place found → IsPossible u r dst (end_of here rest).place found)
   along place reached here [] is ge le walk = (
     tt,
@@ -55,7 +55,7 @@ module _ (u : Rollout) (span : Span) (r dst : ℕ) (tables : List (List Rule)) (
 
 pub labelled_stay : (u : Rollout) (new : List (List Rule)) (evidence : TwoPhaseEvidence) (span : Span) (dst : ℕ) (entry : Place) → TwoPhaseSpanCertificate u new evidence span dst entry
     → (start : TimedPlace) (rest : List TimedPlace) → IsTimedWalk u span dst entry start rest
-    → IsMixedWalk u start.round dst entry (places_of rest)
+    → IsMixedWalk u start.round dst entry (places_walked rest)
     × ((found : Outcome) → IsPossible u (end_of start rest).round dst (end_of start rest).place found → IsPossible u start.round dst (end_of start rest).place found)
 labelled_stay u new evidence span dst entry certificate start [] walk = (tt, λ found possible. possible)
 labelled_stay u new evidence span dst entry certificate start (next ∷ rest) walk =

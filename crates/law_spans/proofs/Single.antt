@@ -25,7 +25,7 @@ use Rattle.certificates.specs.declared.OrderedEvidence.{OrderedEvidence}
 use Rattle.certificates.specs.declared.TwoPhaseEvidence.{TwoPhaseEvidence}
 use Rattle.law_two_way_runs.specs.Laws.{WalkedRound}
 use Rattle.law_spans.specs.Spans.{AreAllWaits, Span}
-use Rattle.law_spans.specs.TimedWalks.{TimedPlace, IsTimedStep, IsTimedWalk, IsMet, IsStepInSpan, MayLeaveInSpan, MayDropInSpan, places_of, WalkedInSpan}
+use Rattle.law_spans.specs.TimedWalks.{TimedPlace, IsTimedStep, IsTimedWalk, IsMetInRound, IsStepInSpan, MayLeaveInSpan, MayDropInSpan, places_walked, WalkedInSpan}
 use Rattle.law_spans.specs.Certificates.{IsSafeInSpan, OrderedSpanCertificate, TwoPhaseSpanCertificate}
 use Rattle.law_spans.specs.Certified.{HasSpanCertificate, IsCertifiedWithWaits}
 use Rattle.law_spans.proofs.SpanLaws.{alone_is_span, span_is_alone}
@@ -54,7 +54,7 @@ module _ (u : Rollout) (k dst : ℕ) where
   timed_from_mixed entry rest walk = record { begins = refl; within = (omega arith, omega arith); walk = timed_steps entry rest walk }
 
   mixed_steps : (start : TimedPlace) (rest : List TimedPlace) → start.round ≡ k → IsWalk (IsTimedStep u (alone k) dst) start rest
-      → IsWalk (MayGo u k dst) start.place (places_of rest) × ((end_of start rest).round ≡ k)
+      → IsWalk (MayGo u k dst) start.place (places_walked rest) × ((end_of start rest).round ≡ k)
   mixed_steps start [] is walk = (tt, is)
   mixed_steps start (next ∷ rest) is walk =
       let later = walk.0.later in
@@ -63,15 +63,15 @@ module _ (u : Rollout) (k dst : ℕ) where
       ((subst (λ r. MayGo u r dst start.place next.place) is walk.0.goes, more.0), more.1)
 
   -- and the other way round
-  pub mixed_from_timed : (entry : Place) (start : TimedPlace) (rest : List TimedPlace) → IsTimedWalk u (alone k) dst entry start rest → IsMixedWalk u k dst entry (places_of rest) × ((end_of start rest).round ≡ k)
+  pub mixed_from_timed : (entry : Place) (start : TimedPlace) (rest : List TimedPlace) → IsTimedWalk u (alone k) dst entry start rest → IsMixedWalk u k dst entry (places_walked rest) × ((end_of start rest).round ≡ k)
   mixed_from_timed entry start rest walk =
       let from = walk.within.0 in
       let to = walk.within.1 in
       let all = mixed_steps start rest (omega arith) walk.walk in
-      (subst (λ x. IsWalk (MayGo u k dst) x (places_of rest)) walk.begins all.0, all.1)
+      (subst (λ x. IsWalk (MayGo u k dst) x (places_walked rest)) walk.begins all.0, all.1)
 
   module _ (entry : Place) where
-    met_from_reached : (place : Place) → IsOnMixedWalk u k dst entry place → IsMet u (alone k) dst entry (in_round k place)
+    met_from_reached : (place : Place) → IsOnMixedWalk u k dst entry place → IsMetInRound u (alone k) dst entry (in_round k place)
     met_from_reached place (rest, walk, ends) = record {
       start = in_round k entry;
       rest = map (in_round k) rest;
@@ -79,10 +79,10 @@ module _ (u : Rollout) (k dst : ℕ) where
       ends = timed_end entry rest ∙ ap (in_round k) ends;
     }
 
-    reached_from_met : (met : TimedPlace) → IsMet u (alone k) dst entry met → IsOnMixedWalk u k dst entry met.place × (met.round ≡ k)
+    reached_from_met : (met : TimedPlace) → IsMetInRound u (alone k) dst entry met → IsOnMixedWalk u k dst entry met.place × (met.round ≡ k)
     reached_from_met met is =
         let (walk, round) = mixed_from_timed entry is.start is.rest is.walk in (
-          (places_of is.rest, walk, ap (λ x. end_of x (places_of is.rest)) (sym is.walk.begins) ∙ end_place is.start is.rest ∙ ap (λ (p : TimedPlace). p.place) is.ends),
+          (places_walked is.rest, walk, ap (λ x. end_of x (places_walked is.rest)) (sym is.walk.begins) ∙ end_place is.start is.rest ∙ ap (λ (p : TimedPlace). p.place) is.ends),
           subst (λ (p : TimedPlace). p.round ≡ k) is.ends round,
         )
 
@@ -177,9 +177,9 @@ pub walked_alone : (u : Rollout) (k : ℕ) (p : Packet) → WalkedInSpan u (alon
 walked_alone u k p w =
     let (walk, round) = mixed_from_timed u k p.dst p.entry w.start w.rest w.walk in
     record {
-      rest = places_of w.rest;
+      rest = places_walked w.rest;
       walk = walk;
-      at_is = ap (λ x. end_of x (places_of w.rest)) (sym w.walk.begins) ∙ end_place w.start w.rest ∙ w.at_is;
+      at_is = ap (λ x. end_of x (places_walked w.rest)) (sym w.walk.begins) ∙ end_place w.start w.rest ∙ w.at_is;
       visits_are = w.visits_are ∙ ap (λ x. stop_of x ∷ map (λ (q : TimedPlace). stop_of q.place) w.rest) w.walk.begins ∙ ap (λ xs. stop_of p.entry ∷ xs) (stops_are w.rest);
       ended = subst (λ (n : ℕ). EndWasPossible u (record p { born = n }) p.ended) round w.ended;
     }

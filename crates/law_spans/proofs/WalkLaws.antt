@@ -7,18 +7,18 @@ use Rattle.net_base.specs.declared.ids.Place.{Place}
 use Rattle.update_model.specs.Mixtures.{Rollout, MayGo}
 use Rattle.update_model.specs.declared.Packet.{Packet}
 use Rattle.law_spans.specs.Spans.{Span, HasRound, IsPart}
-use Rattle.law_spans.specs.TimedWalks.{TimedPlace, IsTimedStep, IsTimedWalk, IsMet, IsUpTo, stops_of, places_of, WalkedInSpan}
+use Rattle.law_spans.specs.TimedWalks.{TimedPlace, IsTimedStep, IsTimedWalk, IsMetInRound, IsUpTo, stops_of, places_walked, WalkedInSpan}
 
 -- a place in a round
 abbrev pub in_round : ℕ → Place → TimedPlace
 in_round k place = record { place = place; round = k }
 
 -- where the places of a timed walk end
-pub end_place : (start : TimedPlace) (rest : List TimedPlace) → end_of start.place (places_of rest) ≡ (end_of start rest).place
+pub end_place : (start : TimedPlace) (rest : List TimedPlace) → end_of start.place (places_walked rest) ≡ (end_of start rest).place
 end_place start [] = refl
 end_place start (next ∷ rest) = end_place next rest
 
-pub stops_are : (rest : List TimedPlace) → map (λ (p : TimedPlace). stop_of p.place) rest ≡ map stop_of (places_of rest)
+pub stops_are : (rest : List TimedPlace) → map (λ (p : TimedPlace). stop_of p.place) rest ≡ map stop_of (places_walked rest)
 stops_are [] = refl
 stops_are (p ∷ rest) = ap (λ xs. stop_of p.place ∷ xs) (stops_are rest)
 
@@ -69,13 +69,13 @@ module _ (u : Rollout) (span : Span) (dst : ℕ) where
 
   module _ (entry : Place) where
     -- the end of a timed walk is met
-    pub met_end : (start : TimedPlace) (rest : List TimedPlace) → IsTimedWalk u span dst entry start rest → IsMet u span dst entry (end_of start rest)
+    pub met_end : (start : TimedPlace) (rest : List TimedPlace) → IsTimedWalk u span dst entry start rest → IsMetInRound u span dst entry (end_of start rest)
     met_end start rest walk = record { start = start; rest = rest; walk = walk; ends = refl }
 
-    pub met_start : (start : TimedPlace) → start.place ≡ entry → HasRound span start.round → IsMet u span dst entry start
+    pub met_start : (start : TimedPlace) → start.place ≡ entry → HasRound span start.round → IsMetInRound u span dst entry start
     met_start start begins within = record { start = start; rest = []; walk = record { begins = begins; within = within; walk = tt }; ends = refl }
 
-    pub met_more : (here next : TimedPlace) → IsMet u span dst entry here → IsTimedStep u span dst here next → IsMet u span dst entry next
+    pub met_more : (here next : TimedPlace) → IsMetInRound u span dst entry here → IsTimedStep u span dst here next → IsMetInRound u span dst entry next
     met_more here next met step = record {
       start = met.start;
       rest = met.rest ++ next ∷ [];
@@ -99,7 +99,7 @@ module _ (u : Rollout) (part span : Span) (is : IsPart part span) (dst : ℕ) (e
     walk = walk_weaker (IsTimedStep u part dst) (IsTimedStep u span dst) wider_step start rest walk.walk;
   }
 
-  pub wider_met : (met : TimedPlace) → IsMet u part dst entry met → IsMet u span dst entry met
+  pub wider_met : (met : TimedPlace) → IsMetInRound u part dst entry met → IsMetInRound u span dst entry met
   wider_met met of_part = record { start = of_part.start; rest = of_part.rest; walk = wider_walk of_part.start of_part.rest of_part.walk; ends = of_part.ends }
 
 pub wider_walked : (u : Rollout) (part span : Span) → IsPart part span → (p : Packet) → WalkedInSpan u part p → WalkedInSpan u span p

@@ -23,7 +23,7 @@ use Rattle.certificates.specs.declared.OrderedEvidence.{OrderedEvidence}
 use Rattle.certificates.specs.declared.TwoPhaseEvidence.{TwoPhaseEvidence}
 use Rattle.law_two_way_runs.specs.States.{TwoWayEvent}
 use Rattle.law_spans.specs.Spans.{Span, HasRound, IsSpan}
-use Rattle.law_spans.specs.TimedWalks.{TimedPlace, IsTimedWalk, IsUpTo, IsStepInSpan, places_of, switches_met, WalkedInSpan}
+use Rattle.law_spans.specs.TimedWalks.{TimedPlace, IsTimedWalk, IsUpTo, IsStepInSpan, places_walked, switches_met, WalkedInSpan}
 use Rattle.law_spans.specs.Certificates.{AreGuardedInSpan, IsSafeInSpan, OrderedSpanCertificate, TwoPhaseSpanCertificate}
 use Rattle.law_spans.specs.Runs.{IsRunWithWaits, state_after_with_waits, last_round}
 
@@ -62,14 +62,14 @@ IsConsistentWithWaits u rounds waits two_phase =
     → AllByRecursion (IsConsistentPacket u two_phase) (state_after_with_waits by events).state.packets
 
 -- where the numbers fall, no timed walk has a switch twice
-abbrev pub FallingNumbersKeepFromLoops : Rollout → Span → Type 0
-FallingNumbersKeepFromLoops u span =
+abbrev pub FallingNumbersKeepFromLoopsInSpan : Rollout → Span → Type 0
+FallingNumbersKeepFromLoopsInSpan u span =
     (dst : ℕ) (entry : Place) (numbers : List ℕ) → Falls (IsStepInSpan u span dst entry) numbers
     → (start : TimedPlace) (rest : List TimedPlace) → IsTimedWalk u span dst entry start rest → IsDistinct (switches_met start rest)
 
 -- where the chains are guarded, a timed walk at whose last place a packet may leave in its last round has met each chain in order
-abbrev pub GuardedChainsAreMet : Rollout → Span → Type 0
-GuardedChainsAreMet u span =
+abbrev pub GuardedChainsAreMetInSpan : Rollout → Span → Type 0
+GuardedChainsAreMetInSpan u span =
     (dst : ℕ) (entry : Place) (chains : List (List SwitchId)) (sets : List (List ℕ)) → AreGuardedInSpan u span dst entry chains sets
     → (start : TimedPlace) (rest : List TimedPlace) (port : Port) (vlan : Vlan) → IsTimedWalk u span dst entry start rest
     → IsPossible u (end_of start rest).round dst (end_of start rest).place (Leave port vlan)
@@ -80,7 +80,7 @@ abbrev pub LabelledWalksStayMixed : Rollout → List (List Rule) → Span → Ty
 LabelledWalksStayMixed u new span =
     (evidence : TwoPhaseEvidence) (dst : ℕ) (entry : Place) → TwoPhaseSpanCertificate u new evidence span dst entry
     → (start : TimedPlace) (rest : List TimedPlace) → IsTimedWalk u span dst entry start rest
-    → IsMixedWalk u start.round dst entry (places_of rest)
+    → IsMixedWalk u start.round dst entry (places_walked rest)
     × ((found : Outcome) → IsPossible u (end_of start rest).round dst (end_of start rest).place found → IsPossible u start.round dst (end_of start rest).place found)
 
 -- a part of a span that an ordered plan certifies is certified by the same pick

@@ -35,7 +35,7 @@ abbrev pub IsUpTo : ℕ → TimedPlace → List TimedPlace → Type 0
 IsUpTo r start rest = (end_of start rest).round ≤ r
 
 -- a place is met in a round: some timed walk has it with this round, as its last
-pub record IsMet (u : Rollout) (span : Span) (dst : ℕ) (entry : Place) (met : TimedPlace) : Type 0 where
+pub record IsMetInRound (u : Rollout) (span : Span) (dst : ℕ) (entry : Place) (met : TimedPlace) : Type 0 where
   pub start : TimedPlace
   pub rest : List TimedPlace
   pub walk : IsTimedWalk u span dst entry start rest
@@ -45,7 +45,7 @@ pub record IsMet (u : Rollout) (span : Span) (dst : ℕ) (entry : Place) (met : 
 pub record IsStepInSpan (u : Rollout) (span : Span) (dst : ℕ) (entry : Place) (s t : SwitchId) : Type 0 where
   pub here : TimedPlace
   pub next : Place
-  pub met : IsMet u span dst entry here
+  pub met : IsMetInRound u span dst entry here
   pub goes : MayGo u here.round dst here.place next
   pub from_is : here.place.switch ≡ s
   pub to_is : next.switch ≡ t
@@ -55,19 +55,19 @@ pub record MayLeaveInSpan (u : Rollout) (span : Span) (dst : ℕ) (entry : Place
   pub here : TimedPlace
   pub port : Port
   pub vlan : Vlan
-  pub met : IsMet u span dst entry here
+  pub met : IsMetInRound u span dst entry here
   pub leaves : IsPossible u here.round dst here.place (Leave port vlan)
   pub at_is : here.place.switch ≡ s
 
 -- in some round a packet may be discarded at a place that is met in this round
 pub record MayDropInSpan (u : Rollout) (span : Span) (dst : ℕ) (entry : Place) : Type 0 where
   pub here : TimedPlace
-  pub met : IsMet u span dst entry here
+  pub met : IsMetInRound u span dst entry here
   pub drops : IsPossible u here.round dst here.place Discard
 
 -- the places behind the entry of a timed walk
-abbrev pub places_of : List TimedPlace → List Place
-places_of rest = map (λ p. p.place) rest
+abbrev pub places_walked : List TimedPlace → List Place
+places_walked rest = map (λ p. p.place) rest
 
 -- the stops of a timed walk
 abbrev pub stops_of : TimedPlace → List TimedPlace → List Stop

@@ -18,7 +18,7 @@ ghost use Rattle.law_two_way_runs.specs.Laws.{onward_events, onward_state, IsTwo
 ghost use Rattle.law_spans.specs.Spans.{IsWait, AreAllWaits, Span, HasRound, IsPart, IsSpan};
 ghost use Rattle.law_spans.specs.Certified.{HasSpanCertificate, IsCertifiedWithWaits};
 ghost use Rattle.law_spans.specs.Runs.{IsRunWithWaits, state_after_with_waits};
-ghost use Rattle.law_spans.specs.Laws.{EachHasTimedWalk, EachWalksInSomeSpan, TablesAreOfLastRound, IsConsistentWithWaits, FallingNumbersKeepFromLoops, GuardedChainsAreMet, LabelledWalksStayMixed, PartsHaveTheSamePick, PartsAreSafe};
+ghost use Rattle.law_spans.specs.Laws.{EachHasTimedWalk, EachWalksInSomeSpan, TablesAreOfLastRound, IsConsistentWithWaits, FallingNumbersKeepFromLoopsInSpan, GuardedChainsAreMetInSpan, LabelledWalksStayMixed, PartsHaveTheSamePick, PartsAreSafe};
 
 /// Each round of a plan is in one span, and in no other. A span is a longest list of rounds of which none but the first is a wait.
 pub fn one_span()
@@ -49,12 +49,12 @@ pub fn timed_walks()
 
 /// Where the numbers fall along each step, no timed walk has a switch twice.
 pub fn numbers_fall()
-    ensures { (u : Rollout) (span : Span) → FallingNumbersKeepFromLoops u span }
+    ensures { (u : Rollout) (span : Span) → FallingNumbersKeepFromLoopsInSpan u span }
 {}
 
 /// Where the chains are guarded, a packet that may leave has met each of them in order.
 pub fn before_holds()
-    ensures { (u : Rollout) (span : Span) → GuardedChainsAreMet u span }
+    ensures { (u : Rollout) (span : Span) → GuardedChainsAreMetInSpan u span }
 {}
 
 /// Under the certificate of a two-phase plan a packet that is under way over several rounds walks as in the first of them.
