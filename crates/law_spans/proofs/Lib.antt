@@ -1,0 +1,10 @@
+pub mod SpanLaws
+pub mod WalkLaws
+pub mod Falling
+pub mod Guarded
+pub mod Parts
+pub mod Single
+pub mod Labelled
+pub mod Journeys
+pub mod Onward
+pub mod Consistent

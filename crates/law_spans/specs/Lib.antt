@@ -1,0 +1,6 @@
+pub mod Spans
+pub mod TimedWalks
+pub mod Certificates
+pub mod Certified
+pub mod Runs
+pub mod Laws
