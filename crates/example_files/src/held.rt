@@ -1,5 +1,6 @@
 //! A source in memory that holds the files of a command.
-ghost use Rattle.std.specs.Prelude.{◌≤◌};
+ghost use Rattle.std.specs.Prelude.{◌≡◌, ◌≤◌, ◌∷◌, [], None, OnOk, IfOk, codes};
+ghost use Rattle.file_access.specs.Shelf.{file_of, with_file};
 
 use command_base::{PlanNames, UpdateNames};
 use file_access::MemorySource;
@@ -50,6 +51,39 @@ pub fn plan_names() -> PlanNames<'static> {
     }
 }
 
+/// Puts a file into a source.
+fn hold(source: &mut MemorySource, alloc: Global, name: &str, text: &[u8]) -> Result<(), Memory>
+    requires { file_of source.old.files name.now ≡ None }
+    ensures { OnOk result (source.new ≡ with_file source.old name.now text.now) }
+{
+    source.add(String::from_str(alloc, name)?, text.to_vec(alloc)?)
+}
+
+/// Puts `topology`, `old`, `new`, `policy` and `plan` into a source.
+fn hold_update(
+    source: &mut MemorySource,
+    alloc: Global,
+    texts: &UpdateTexts<'_>,
+    plan: &[u8],
+) -> Result<(), Memory>
+    requires { source.old.files ≡ [] }
+    ensures { OnOk result (source.new.files ≡ (codes "topology", texts.now.topology.now) ∷ (codes "old", texts.now.old.now) ∷ (codes "new", texts.now.new.now) ∷ (codes "policy", texts.now.policy.now) ∷ (codes "plan", plan.now) ∷ []) }
+{
+    hold(source, alloc, "topology", texts.topology)?;
+    hold(source, alloc, "old", texts.old)?;
+    hold(source, alloc, "new", texts.new)?;
+    hold(source, alloc, "policy", texts.policy)?;
+    hold(source, alloc, "plan", plan)
+}
+
+/// A source that holds nothing.
+fn empty(alloc: Global, piece: usize, failing: u64) -> Result<MemorySource, Memory>
+    requires { 1 ≤ piece }
+    ensures { IfOk result (λ s. s.files ≡ []) }
+{
+    MemorySource::make(alloc, piece, vec![in alloc; failing]?)
+}
+
 /// A source that holds `topology`, `config` and, if there is one, `policy`.
 ///
 /// A take gives at most `piece` bytes, at least 1; the call of the number `failing` fails, where calls count from 1.
@@ -61,17 +95,11 @@ pub fn config_source(
 ) -> Result<MemorySource, Memory>
     requires { 1 ≤ piece }
 {
-    let mut source = MemorySource::make(alloc, piece, vec![in alloc; failing]?)?;
-    source.add(
-        String::from_str(alloc, "topology")?,
-        texts.topology.to_vec(alloc)?,
-    )?;
-    source.add(
-        String::from_str(alloc, "config")?,
-        texts.config.to_vec(alloc)?,
-    )?;
+    let mut source = empty(alloc, piece, failing)?;
+    hold(&mut source, alloc, "topology", texts.topology)?;
+    hold(&mut source, alloc, "config", texts.config)?;
     if let Some(policy) = texts.policy {
-        source.add(String::from_str(alloc, "policy")?, policy.to_vec(alloc)?)?;
+        hold(&mut source, alloc, "policy", policy)?;
     }
     Ok(source)
 }
@@ -88,18 +116,8 @@ pub fn update_source(
 ) -> Result<MemorySource, Memory>
     requires { 1 ≤ piece }
 {
-    let mut source = MemorySource::make(alloc, piece, vec![in alloc; failing]?)?;
-    source.add(
-        String::from_str(alloc, "topology")?,
-        texts.topology.to_vec(alloc)?,
-    )?;
-    source.add(String::from_str(alloc, "old")?, texts.old.to_vec(alloc)?)?;
-    source.add(String::from_str(alloc, "new")?, texts.new.to_vec(alloc)?)?;
-    source.add(
-        String::from_str(alloc, "policy")?,
-        texts.policy.to_vec(alloc)?,
-    )?;
-    source.add(String::from_str(alloc, "plan")?, plan.to_vec(alloc)?)?;
+    let mut source = empty(alloc, piece, failing)?;
+    hold_update(&mut source, alloc, texts, plan)?;
     Ok(source)
 }
 
@@ -110,19 +128,9 @@ pub fn driven_source(
     plan: &[u8],
     input: &[u8],
 ) -> Result<MemorySource, Memory> {
-    let mut source = MemorySource::make(alloc, 4096, Vec::new(alloc))?;
-    source.add(
-        String::from_str(alloc, "topology")?,
-        texts.topology.to_vec(alloc)?,
-    )?;
-    source.add(String::from_str(alloc, "old")?, texts.old.to_vec(alloc)?)?;
-    source.add(String::from_str(alloc, "new")?, texts.new.to_vec(alloc)?)?;
-    source.add(
-        String::from_str(alloc, "policy")?,
-        texts.policy.to_vec(alloc)?,
-    )?;
-    source.add(String::from_str(alloc, "plan")?, plan.to_vec(alloc)?)?;
-    source.add(String::from_str(alloc, "input")?, input.to_vec(alloc)?)?;
+    let mut source = empty(alloc, 4096, 0)?;
+    hold_update(&mut source, alloc, texts, plan)?;
+    hold(&mut source, alloc, "input", input)?;
     Ok(source)
 }
 
@@ -137,18 +145,8 @@ pub fn served_source(
 ) -> Result<MemorySource, Memory>
     requires { 1 ≤ piece }
 {
-    let mut source = MemorySource::make(alloc, piece, Vec::new(alloc))?;
-    source.add(
-        String::from_str(alloc, "topology")?,
-        texts.topology.to_vec(alloc)?,
-    )?;
-    source.add(String::from_str(alloc, "old")?, texts.old.to_vec(alloc)?)?;
-    source.add(String::from_str(alloc, "new")?, texts.new.to_vec(alloc)?)?;
-    source.add(
-        String::from_str(alloc, "policy")?,
-        texts.policy.to_vec(alloc)?,
-    )?;
-    source.add(String::from_str(alloc, "plan")?, plan.to_vec(alloc)?)?;
-    source.add(String::from_str(alloc, "/dev/stdin")?, lines.to_vec(alloc)?)?;
+    let mut source = empty(alloc, piece, 0)?;
+    hold_update(&mut source, alloc, texts, plan)?;
+    hold(&mut source, alloc, "/dev/stdin", lines)?;
     Ok(source)
 }
