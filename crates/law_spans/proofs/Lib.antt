@@ -8,3 +8,4 @@ pub mod Labelled
 pub mod Journeys
 pub mod Onward
 pub mod Consistent
+pub mod Cuts

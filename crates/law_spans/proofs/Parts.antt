@@ -94,7 +94,7 @@ ordered_part u evidence part span n dst entry duties is some whole = (
   refl,
 )
 
-two_phase_part : (u : Rollout) (new : List (List Rule)) (evidence : TwoPhaseEvidence) (part span : Span) (dst : ℕ) (entry : Place) → IsPart part span
+pub two_phase_part : (u : Rollout) (new : List (List Rule)) (evidence : TwoPhaseEvidence) (part span : Span) (dst : ℕ) (entry : Place) → IsPart part span
     → TwoPhaseSpanCertificate u new evidence span dst entry → TwoPhaseSpanCertificate u new evidence part dst entry
 two_phase_part u new evidence part span dst entry is whole r has =
     let first = is.0 in

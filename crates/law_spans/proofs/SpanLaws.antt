@@ -5,7 +5,7 @@ use Rattle.net_base.specs.Members.{IsIn}
 use Rattle.law_spans.specs.Spans.{IsWait, AreAllWaits, Span, HasRound, IsPart, IsSpan}
 
 -- a number stands in a list or doesn't
-in_or_not : (x : ℕ) (xs : List ℕ) → IsIn x xs ⊎ (¬ IsIn x xs)
+pub in_or_not : (x : ℕ) (xs : List ℕ) → IsIn x xs ⊎ (¬ IsIn x xs)
 in_or_not x [] = inr (λ i. i)
 in_or_not x (y ∷ ys) =
     elim (cases_eq x y) [

@@ -11,12 +11,15 @@ ghost use Rattle.certificates.specs.Certified.{IsCertified, is_two_phase};
 ghost use Rattle.certificates.specs.Consistent.{IsConsistent};
 ghost use Rattle.certificates.specs.Updates.{Update, Task};
 ghost use Rattle.certificates.specs.declared.Evidence.{Evidence};
+ghost use Rattle.certificates.specs.declared.Evidence.TheVariants.{Ordered, TwoPhase};
 ghost use Rattle.certificates.specs.declared.OrderedEvidence.{OrderedEvidence};
+ghost use Rattle.certificates.specs.declared.TwoPhaseEvidence.{TwoPhaseEvidence};
 ghost use Rattle.law_two_way_runs.specs.States.{TwoWayEvent};
 ghost use Rattle.law_two_way_runs.specs.Runs.{IsTwoWayRun, state_after_two_way};
 ghost use Rattle.law_two_way_runs.specs.Laws.{onward_events, onward_state, IsTwoWayConsistent};
 ghost use Rattle.law_spans.specs.Spans.{IsWait, AreAllWaits, Span, HasRound, IsPart, IsSpan};
 ghost use Rattle.law_spans.specs.Certified.{HasSpanCertificate, IsCertifiedWithWaits};
+ghost use Rattle.law_spans.specs.Cuts.{AreWaits, IsGreedyCut};
 ghost use Rattle.law_spans.specs.Runs.{IsRunWithWaits, state_after_with_waits};
 ghost use Rattle.law_spans.specs.Laws.{EachHasTimedWalk, EachWalksInSomeSpan, TablesAreOfLastRound, IsConsistentWithWaits, FallingNumbersKeepFromLoopsInSpan, GuardedChainsAreMetInSpan, LabelledWalksStayMixed, PartsHaveTheSamePick, PartsAreSafe};
 
@@ -110,4 +113,15 @@ pub fn sub_spans()
         → IsPart part span → part.first ≤ part.last
         → PartsHaveTheSamePick u evidence part span }
     ensures safe { (u : Rollout) (part span : Span) → IsPart part span → PartsAreSafe u part span }
+{}
+
+/// No plan of the same rounds that is certified has fewer waits than the greedy cut; of two phases none with the same
+/// label tables and picks.
+pub fn fewest_waits()
+    ensures ordered { (t : Task) (evidence other : OrderedEvidence) (waits others : List ℕ)
+        → IsGreedyCut t (Ordered evidence) waits → AreWaits others (length t.rounds)
+        → IsCertifiedWithWaits t (Ordered other) others → length waits ≤ length others }
+    ensures two_phase { (t : Task) (evidence : TwoPhaseEvidence) (waits others : List ℕ)
+        → IsGreedyCut t (TwoPhase evidence) waits → AreWaits others (length t.rounds)
+        → IsCertifiedWithWaits t (TwoPhase evidence) others → length waits ≤ length others }
 {}
