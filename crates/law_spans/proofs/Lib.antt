@@ -9,3 +9,4 @@ pub mod Journeys
 pub mod Onward
 pub mod Consistent
 pub mod Cuts
+pub mod Rows
