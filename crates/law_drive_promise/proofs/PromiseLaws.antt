@@ -31,10 +31,10 @@ use Rattle.law_wire.proofs.Ends.{certified_safe, certified_tables, certified_nev
 use Rattle.law_wire.specs.Laws.{IsWireConsistent, AreTablesOnWire, IsNeverStuck}
 use Rattle.law_wire.specs.Network.{driver_at}
 use Rattle.law_wire_answers.specs.Answering.{SaysAnswered}
-use Rattle.law_drive_promise.specs.Wired.{wire_calls, IsSameOnWire, SaysAsOnWire, SessionFails}
+use Rattle.law_drive_promise.specs.Wired.{wire_calls, IsSameOnWire, SaysAsOnWire, SessionFails, SendsNoneFailed}
 use Rattle.law_drive_promise.specs.Promise.{DriveWirePromise}
 use Rattle.law_drive_promise.proofs.InputsWithin.{inputs_within}
-use Rattle.law_drive_promise.proofs.WiredLaws.{same_on_wire, says_as_on_wire, call_answered, session_fails}
+use Rattle.law_drive_promise.proofs.WiredLaws.{same_on_wire, says_as_on_wire, call_answered, session_fails, failed_quiet}
 
 -- ---- a plan that can be driven
 
@@ -103,10 +103,16 @@ module _ (files : Files) (names : DriveNames) (m : DriveMeaning) (can : FilesAre
     answers : SaysAnswered (driver_at u []) (wire_calls calls) (two_way_call next)
     answers = call_answered u may_drive may_turn calls next front_are next_is
 
+    quiet : (s : SwitchId) → s.0 < switch_count net → SendsNoneFailed (channel_at before s) (channel_at after s)
+    quiet s less =
+        subst (λ (d : DriverState). SendsNoneFailed (channel_at d s) (channel_at after s)) (sym before_is)
+        (subst (λ (d : DriverState). SendsNoneFailed (channel_at (onward.driver_after net rounds calls) s) (channel_at d s)) (sym after_is)
+        (failed_quiet u may_drive may_turn calls next front_are next_is s less))
+
   fails : (inputs : List InputLine) (d : DriverState) (s : SwitchId) (byte : ℕ) → AreInputs net inputs → driven_by net rounds inputs ≡ Ok d → s.0 < switch_count net
-      → SessionFails u (calls_of inputs) s byte (channel_at d s).session (channel_at (driver_after_bytes rounds s (byte ∷ []) d) s).session
+      → SessionFails u (calls_of inputs) s byte (channel_at d s) (channel_at (driver_after_bytes rounds s (byte ∷ []) d) s)
   fails inputs d s byte are driven less =
-      subst (λ (e : DriverState). SessionFails u (calls_of inputs) s byte (channel_at e s).session (channel_at (driver_after_bytes rounds s (byte ∷ []) e) s).session) (sym (driven_calls net rounds inputs d driven))
+      subst (λ (e : DriverState). SessionFails u (calls_of inputs) s byte (channel_at e s) (channel_at (driver_after_bytes rounds s (byte ∷ []) e) s)) (sym (driven_calls net rounds inputs d driven))
       (session_fails u may_drive may_turn (calls_of inputs) s byte (are_calls net inputs are) less)
 
 -- ---- a run of `drive`
@@ -122,4 +128,5 @@ promised files names old new result answered = record {
   wire_inputs = λ m inputs before after can are step. says files names m can inputs before after are step;
   answers = λ m inputs before after can are step. answers files names m can inputs before after are step;
   failed = λ m inputs d s byte can are driven less. fails files names m can inputs d s byte are driven less;
+  quiet = λ m inputs before after s can are step less. quiet files names m can inputs before after are step s less;
 }

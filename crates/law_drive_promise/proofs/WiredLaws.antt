@@ -3,7 +3,6 @@ use Rattle.std.proofs.Common.{◌≡◌, ℕ, ◌<◌, Bool, true, false, cond, 
 use Rattle.std.specs.Prelude.{Option, Some, None}
 use Rattle.std.specs.Option.{option_map_or}
 use Rattle.std.specs.List.{AllByRecursion, concat}
-use Rattle.std.proofs.lemmas.Bool.{cond_both}
 use Rattle.std.proofs.lemmas.List.Elements.{filter_map-append}
 use Rattle.std.proofs.lemmas.List.Folds.{concat-append}
 use Rattle.net_base.specs.declared.ids.SwitchId.{SwitchId}
@@ -11,11 +10,10 @@ use Rattle.net_base.proofs.MemberLaws.{each_append}
 use Rattle.topology.specs.Networks.{Network, switch_count}
 use Rattle.update_model.specs.Mixtures.{Rollout}
 use Rattle.update_model.specs.declared.Change.{Change}
-use Rattle.law_two_way_runs.specs.Laws.{onward_events}
 use Rattle.law_two_way_runs.specs.States.{TwoWayEvent}
 use Rattle.round_inverses.specs.Rounds.{inverse_rounds}
 use Rattle.switch_session.specs.Fronts.{front_of}
-use Rattle.switch_session.specs.Channels.{hello, is_failed}
+use Rattle.switch_session.specs.Channels.{ChannelState, hello, is_failed}
 use Rattle.switch_session.specs.Laws.{AreCut}
 use Rattle.switch_session.specs.declared.Cause.{Cause}
 use Rattle.switch_session.specs.declared.Session.{Session}
@@ -26,24 +24,24 @@ use Rattle.update_driver.specs.Drivers.{DriverState, channel_at}
 use Rattle.update_driver.proofs.AgreeLaws.{both_agree}
 use Rattle.update_driver.proofs.PieceLaws.{after-append}
 use Rattle.two_way_driver.specs.Drivers.{peer_at}
-use Rattle.two_way_driver.specs.Calls.{AreTurnable, DriverView, silent_view}
+use Rattle.two_way_driver.specs.Calls.{AreTurnable, DriverView}
 use Rattle.two_way_driver.specs.Laws.{Call, Feed, IsCall, event_in, events_in, after_call, after_calls}
 use Rattle.two_way_driver.specs.Sending.{texts_to}
-use Rattle.two_way_driver.specs.Words.{after_call_anew, after_calls_anew, said_by_each, joined_words}
+use Rattle.two_way_driver.specs.Words.{after_call_anew, said_by_each, joined_words}
 use Rattle.two_way_driver.specs.declared.DriverOutput.{DriverOutput}
 use Rattle.two_way_driver.proofs.QuietLaws.{texts-append}
 use Rattle.two_way_driver.proofs.SendingLaws.{all_calls}
 use Rattle.two_way_driver.proofs.WordLaws.{call_is, calls_said, calls_kept}
 use Rattle.law_wire.specs.Network.{driver_at, block_at}
 use Rattle.law_wire_answers.specs.Answering.{SaysAnswered}
-use Rattle.law_wire_answers.specs.Exchanges.{Exchange, exchange_of, exchanges_from, failures_to, SwitchTalk, first_traffic, is_reopened, came_then, dead_then, traffic_then, traffic_from, traffic_behind}
+use Rattle.law_wire_answers.specs.Exchanges.{exchange_of, exchanges_from, failures_to, SwitchTalk, first_traffic, is_reopened, came_then, dead_then, traffic_then, traffic_from, traffic_behind}
 use Rattle.law_wire_answers.specs.Failing.{fault_at, due_behind}
 use Rattle.law_wire_answers.proofs.TrafficLaws.{behind_push}
 use Rattle.law_wire_answers.proofs.KnowingLaws.{FailedAs}
 use Rattle.law_wire_answers.proofs.CallLaws.{behind_calls, silent_is, says_answered}
 use Rattle.law_wire_answers.proofs.TurningLaws.{dead_as_told}
-use Rattle.law_wire_answers.proofs.FailingLaws.{fails_by_rules}
-use Rattle.law_drive_promise.specs.Wired.{wire_calls, wire_driver, wire_texts, IsOneTalk, IsSameOnWire, SaysAsOnWire, FailedFor, FailsAtByte, SessionFails}
+use Rattle.law_wire_answers.proofs.FailingLaws.{fails_by_rules, stays_quiet}
+use Rattle.law_drive_promise.specs.Wired.{wire_calls, wire_driver, wire_texts, IsOneTalk, IsSameOnWire, SaysAsOnWire, FailedFor, FailsAtByte, SessionFails, SendsNoneFailed}
 
 -- ---- one call more
 
@@ -74,10 +72,10 @@ came_more s (onward.Feed t bytes) came rest =
       | false ↦ refl
     ]
 
-sent_more : (s : SwitchId) (c : onward.Call) (sent : List (List ℕ)) (said : List DriverOutput) (v : DriverView) (t : SwitchTalk)
+sent_more : (s : SwitchId) (c : onward.Call) (v : DriverView) (t : SwitchTalk)
     → (traffic_then s (exchange_of v (two_way_call c)) t).sent ≡ t.sent ++ texts_to s (after_call_anew v (two_way_call c)).state.said
-sent_more s onward.Start sent said v t = refl
-sent_more s (onward.Feed r bytes) sent said v t = refl
+sent_more s onward.Start v t = refl
+sent_more s (onward.Feed r bytes) v t = refl
 
 module _ (s : SwitchId) where
   came_from : (v : DriverView) (t : SwitchTalk) (calls : List onward.Call) → (traffic_from s t (exchanges_from v (wire_calls calls))).came ≡ t.came ++ onward.bytes_from s calls
@@ -92,7 +90,7 @@ module _ (s : SwitchId) where
   sent_from v t (c ∷ calls) =
       let w = after_call_anew v (two_way_call c) in
       let rest = joined_words (said_by_each w (wire_calls calls)) in
-      sent_from w (traffic_then s (exchange_of v (two_way_call c)) t) calls ∙ ap (λ (l : List (List ℕ)). l ++ texts_to s rest) (sent_more s c [] [] v t)
+      sent_from w (traffic_then s (exchange_of v (two_way_call c)) t) calls ∙ ap (λ (l : List (List ℕ)). l ++ texts_to s rest) (sent_more s c v t)
       ∙ append_assoc t.sent (texts_to s w.state.said) (texts_to s rest) ∙ ap (λ (l : List (List ℕ)). t.sent ++ l) (sym (texts-append s w.state.said rest))
 
   dead_from : (v : DriverView) (t : SwitchTalk) (calls : List onward.Call) → (traffic_from s t (exchanges_from v (wire_calls calls))).dead ≡ t.dead
@@ -105,6 +103,11 @@ going_none : (x : Session) (failures : List Cause) → is_failed x ≡ false →
 going_none Waiting failures going told = told
 going_none Open failures going told = told
 going_none (Failed c) failures going told = absurd (let f : true ≡ false = going in cc)
+
+some_failure : (x : Session) (failures : List Cause) → is_failed x ≡ true → FailedAs x failures → failures ≡ [] → ⊥
+some_failure Waiting failures failed told none = absurd (let f : false ≡ true = failed in cc)
+some_failure Open failures failed told none = absurd (let f : false ≡ true = failed in cc)
+some_failure (Failed c) failures failed told none = let one : failures ≡ c ∷ [] = told in let f : c ∷ [] ≡ [] = sym one ∙ none in absurd (cc)
 
 failed_one : (x : Session) (failures : List Cause) (c : Cause) → x ≡ Failed c → FailedAs x failures → failures ≡ c ∷ []
 failed_one Waiting failures c is told = absurd (let f : Waiting ≡ Failed c = is in cc)
@@ -200,7 +203,7 @@ module _ (u : Rollout) (drivable : onward.AreDrivable u.net u.rounds) (turnable 
     pub call_answered : SaysAnswered (driver_at u []) (wire_calls calls) (two_way_call c)
     call_answered = says_answered net u.rounds inverses turnable (wire_calls calls) (two_way_call c) (calls_within calls ok) (call_within c here)
 
-  -- ---- a byte more
+  -- ---- failures
 
   failures_told : (calls : List onward.Call) (s : SwitchId) → are_calls calls → s.0 < switch_count net → FailedAs (channel_at (driver calls) s).session (talk calls s).failures
   failures_told calls s ok less =
@@ -211,6 +214,14 @@ module _ (u : Rollout) (drivable : onward.AreDrivable u.net u.rounds) (turnable 
       subst (λ (x : Session). FailedAs x (talk calls s).failures) (sym session ∙ (agrees calls ok).sessions s less)
       (knows.told (sym knows.dead ∙ (one_talk calls s ok less).alive))
 
+  pub failed_quiet : (calls : List onward.Call) (c : onward.Call) → are_calls calls → onward.IsCall net c → (s : SwitchId) → s.0 < switch_count net
+      → SendsNoneFailed (channel_at (driver calls) s) (channel_at (onward.after_call net u.rounds (driver calls) c) s)
+  failed_quiet calls c ok here s less failed =
+      let sent = (channel_at (driver calls) s).sent in
+      let some = some_failure (channel_at (driver calls) s).session (talk calls s).failures failed (failures_told calls s ok less) in
+      let quiet = stays_quiet net u.rounds inverses turnable (wire_calls calls) s (two_way_call c) (calls_within calls ok) (call_within c here) less (some, (one_talk calls s ok less).alive) (same_session s c) in
+      (says_as_on_wire calls c ok here).sent s less ∙ ap (λ (l : List (List ℕ)). sent ++ concat l) quiet.texts ∙ append-nil sent
+
   module _ (calls : List onward.Call) (s : SwitchId) (byte : ℕ) (ok : are_calls calls) (less : s.0 < switch_count net) where
     abbrev fed : onward.Call
     fed = onward.Feed s (byte ∷ [])
@@ -218,11 +229,11 @@ module _ (u : Rollout) (drivable : onward.AreDrivable u.net u.rounds) (turnable 
     abbrev told : List DriverOutput
     told = block_at u (wire_calls calls) (Feed s (byte ∷ []))
 
-    abbrev session_before : Session
-    session_before = (channel_at (driver calls) s).session
+    abbrev before : ChannelState
+    before = channel_at (driver calls) s
 
-    abbrev session_after : Session
-    session_after = (channel_at (onward.after_call net u.rounds (driver calls) fed) s).session
+    abbrev after : ChannelState
+    after = channel_at (onward.after_call net u.rounds (driver calls) fed) s
 
     failures_next : (talk (calls ++ fed ∷ []) s).failures ≡ (talk calls s).failures ++ failures_to s told
     failures_next =
@@ -231,34 +242,35 @@ module _ (u : Rollout) (drivable : onward.AreDrivable u.net u.rounds) (turnable 
         ap (λ (l : List Call). (traffic_behind v s l).failures) (wire_push calls fed) ∙ ap (λ (t : SwitchTalk). t.failures) (behind_push v s (wire_calls calls) c)
         ∙ ap (λ (w : DriverView). (talk calls s).failures ++ failures_to s (after_call w c).state.said) (sym (calls_kept v (wire_calls calls)))
 
-    next_told : FailedAs session_after ((talk calls s).failures ++ failures_to s told)
+    next_told : FailedAs after.session ((talk calls s).failures ++ failures_to s told)
     next_told =
-        subst (FailedAs session_after) failures_next
+        subst (FailedAs after.session) failures_next
         (subst (λ (d : DriverState). FailedAs (channel_at d s).session (talk (calls ++ fed ∷ []) s).failures) (driver_next calls fed ok less)
         (failures_told (calls ++ fed ∷ []) s (are_more calls fed ok less) less))
 
-    at_byte : is_failed session_before ≡ false → FailsAtByte u calls s byte session_after
+    at_byte : is_failed before.session ≡ false → FailsAtByte u calls s byte before after
     at_byte going =
         let t = one_talk calls s ok less in
         let rules = fails_by_rules net u.rounds inverses turnable (wire_calls calls) s byte (calls_within calls ok) less in
-        let none = going_none session_before (talk calls s).failures going (failures_told calls s ok less) in
+        let none = going_none before.session (talk calls s).failures going (failures_told calls s ok less) in
         let by = rules.going none t.alive in
         let fault : List (List ℕ) → Option Cause = λ sent. fault_at by.before (due_behind sent by.before) (by.rest ++ byte ∷ []) (front_of (by.rest ++ byte ∷ [])) in
         record {
-          before = by.before;
+          messages = by.before;
           rest = by.rest;
           cut = subst (λ (l : List ℕ). AreCut l by.before by.rest) t.came by.cut;
           short = by.short;
-          session = subst (λ (sent : List (List ℕ)). FailedFor (fault sent) session_after) t.sent
-              (failed_for (fault (talk calls s).sent) session_after ((talk calls s).failures ++ failures_to s told) (ap (λ (l : List Cause). l ++ failures_to s told) none ∙ by.failures) next_told);
+          session = subst (λ (sent : List (List ℕ)). FailedFor (fault sent) after.session) t.sent
+              (failed_for (fault (talk calls s).sent) after.session ((talk calls s).failures ++ failures_to s told) (ap (λ (l : List Cause). l ++ failures_to s told) none ∙ by.failures) next_told);
+          replies = λ behind. (says_as_on_wire calls fed ok less).sent s less ∙ ap (λ (l : List (List ℕ)). before.sent ++ concat l) (by.replies behind);
         }
 
-    stays : (c : Cause) → session_before ≡ Failed c → session_after ≡ Failed c
+    stays : (c : Cause) → before.session ≡ Failed c → after.session ≡ Failed c
     stays c is =
         let rules = fails_by_rules net u.rounds inverses turnable (wire_calls calls) s byte (calls_within calls ok) less in
-        let one = failed_one session_before (talk calls s).failures c is (failures_told calls s ok less) in
+        let one = failed_one before.session (talk calls s).failures c is (failures_told calls s ok less) in
         let mute : told ≡ [] = rules.failed (λ none. let f : c ∷ [] ≡ [] = sym one ∙ none in cc) in
-        failed_for (Some c) session_after ((talk calls s).failures ++ failures_to s told) (ap (λ (l : List Cause). l ++ failures_to s told) one ∙ ap (λ (w : List DriverOutput). c ∷ failures_to s w) mute) next_told
+        failed_for (Some c) after.session ((talk calls s).failures ++ failures_to s told) (ap (λ (l : List Cause). l ++ failures_to s told) one ∙ ap (λ (w : List DriverOutput). c ∷ failures_to s w) mute) next_told
 
-    pub session_fails : SessionFails u calls s byte session_before session_after
+    pub session_fails : SessionFails u calls s byte before after
     session_fails = record { going = at_byte; failed = stays }

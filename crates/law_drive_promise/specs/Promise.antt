@@ -18,7 +18,7 @@ use Rattle.drive_command.specs.Promise.{DrivePromise}
 use Rattle.law_wire.specs.Laws.{IsWireConsistent, AreTablesOnWire, IsNeverStuck}
 use Rattle.law_wire.specs.Network.{driver_at}
 use Rattle.law_wire_answers.specs.Answering.{SaysAnswered}
-use Rattle.law_drive_promise.specs.Wired.{wire_calls, IsSameOnWire, SaysAsOnWire, SessionFails}
+use Rattle.law_drive_promise.specs.Wired.{wire_calls, IsSameOnWire, SaysAsOnWire, SessionFails, SendsNoneFailed}
 
 -- the files and their names, what was written before and after the run, and how it ended
 pub record DriveWirePromise (files : Files) (names : DriveNames) (old new : Option (List ℕ)) (result : Status) : Type 0 where
@@ -44,8 +44,11 @@ pub record DriveWirePromise (files : Files) (names : DriveNames) (old new : Opti
   pub answers : (m : DriveMeaning) (inputs : List InputLine) (before after : DriverState) → FilesAreDrivable files names m → AreInputs m.check.update.net inputs
       → (step : IsStep m.check.update.net m.check.plan.rounds inputs before after)
       → SaysAnswered (driver_at (rollout (task_in m.check)) []) (wire_calls (calls_of step.front)) (two_way_call (call_of step.next.input))
-  -- A session fails exactly where a byte of its switch breaks the rules, and stays so (`SessionFails`, of one byte more: by `pieces` it makes
-  -- no difference where bytes are cut).
+  -- A session fails exactly where a byte of its switch breaks the rules, and stays so; until then exactly the echo requests among its whole
+  -- messages are replied to (`SessionFails`, of one byte more: by `pieces` it makes no difference where bytes are cut). Once it failed the
+  -- switch is sent nothing.
   pub failed : (m : DriveMeaning) (inputs : List InputLine) (d : DriverState) (s : SwitchId) (byte : ℕ) → FilesAreDrivable files names m → AreInputs m.check.update.net inputs
       → driven_by m.check.update.net m.check.plan.rounds inputs ≡ Ok d → s.0 < switch_count m.check.update.net
-      → SessionFails (rollout (task_in m.check)) (calls_of inputs) s byte (channel_at d s).session (channel_at (driver_after_bytes m.check.plan.rounds s (byte ∷ []) d) s).session
+      → SessionFails (rollout (task_in m.check)) (calls_of inputs) s byte (channel_at d s) (channel_at (driver_after_bytes m.check.plan.rounds s (byte ∷ []) d) s)
+  pub quiet : (m : DriveMeaning) (inputs : List InputLine) (before after : DriverState) (s : SwitchId) → FilesAreDrivable files names m → AreInputs m.check.update.net inputs
+      → IsStep m.check.update.net m.check.plan.rounds inputs before after → s.0 < switch_count m.check.update.net → SendsNoneFailed (channel_at before s) (channel_at after s)

@@ -1,12 +1,12 @@
 -- A driver that can't turn back, on the wire: the driver there is never turned, no session is opened again, and no switch is dead.
-use Rattle.std.specs.Prelude.{◌≡◌, ◌<◌, ℕ, false, List, [], ◌∷◌, ◌++◌, map, Option, Some, None}
+use Rattle.std.specs.Prelude.{◌≡◌, ◌≢◌, ◌<◌, ℕ, true, false, List, [], ◌∷◌, ◌++◌, map, Option, Some, None}
 use Rattle.std.specs.List.{concat}
 use Rattle.net_base.specs.declared.ids.SwitchId.{SwitchId}
 use Rattle.topology.specs.Networks.{switch_count}
 use Rattle.update_model.specs.Mixtures.{Rollout}
 use Rattle.law_two_way_runs.specs.Laws.{onward_events}
 use Rattle.switch_session.specs.Fronts.{front_of}
-use Rattle.switch_session.specs.Channels.{is_failed}
+use Rattle.switch_session.specs.Channels.{ChannelState, is_failed}
 use Rattle.switch_session.specs.Laws.{AreCut}
 use Rattle.switch_session.specs.declared.Cause.{Cause}
 use Rattle.switch_session.specs.declared.Session.{Session}
@@ -21,7 +21,7 @@ use Rattle.two_way_driver.specs.Laws.{Call, events_in}
 use Rattle.two_way_driver.specs.Sending.{texts_to}
 use Rattle.law_wire.specs.Network.{driver_at, block_at}
 use Rattle.law_wire_answers.specs.Exchanges.{SwitchTalk, traffic_behind}
-use Rattle.law_wire_answers.specs.Failing.{fault_at, due_behind}
+use Rattle.law_wire_answers.specs.Failing.{fault_at, echoes_at, due_behind}
 
 -- calls as those of the driver on the wire
 abbrev pub wire_calls : List onward.Call → List Call
@@ -62,16 +62,22 @@ abbrev pub FailedFor : Option Cause → Session → Type 0
 FailedFor None session = is_failed session ≡ false
 FailedFor (Some c) session = session ≡ Failed c
 
--- a session that hasn't failed, behind one byte more. All bytes before it are cut into whole messages, as their length fields say, and a
--- rest; the session fails exactly where the rest with this byte breaks the rules
-pub record FailsAtByte (u : Rollout) (calls : List onward.Call) (s : SwitchId) (byte : ℕ) (after : Session) : Type 0 where
-  pub before : List (List ℕ)
+-- a channel whose session hasn't failed, and what it is behind one byte more. All bytes before it are cut into whole messages, as their length
+-- fields say, and a rest; the session fails exactly where the rest with this byte breaks the rules, and behind HELLO exactly the echo requests
+-- are replied to
+pub record FailsAtByte (u : Rollout) (calls : List onward.Call) (s : SwitchId) (byte : ℕ) (before after : ChannelState) : Type 0 where
+  pub messages : List (List ℕ)
   pub rest : List ℕ
-  pub cut : AreCut (onward.bytes_from s calls) before rest
+  pub cut : AreCut (onward.bytes_from s calls) messages rest
   pub short : front_of rest ≡ Short
-  pub session : FailedFor (fault_at before (due_behind (wire_texts u calls s) before) (rest ++ byte ∷ []) (front_of (rest ++ byte ∷ []))) after
+  pub session : FailedFor (fault_at messages (due_behind (wire_texts u calls s) messages) (rest ++ byte ∷ []) (front_of (rest ++ byte ∷ []))) after.session
+  pub replies : messages ≢ [] → after.sent ≡ before.sent ++ concat (echoes_at (rest ++ byte ∷ []) (front_of (rest ++ byte ∷ [])))
 
 -- a session that failed stays so
-pub record SessionFails (u : Rollout) (calls : List onward.Call) (s : SwitchId) (byte : ℕ) (before after : Session) : Type 0 where
-  pub going : is_failed before ≡ false → FailsAtByte u calls s byte after
-  pub failed : (c : Cause) → before ≡ Failed c → after ≡ Failed c
+pub record SessionFails (u : Rollout) (calls : List onward.Call) (s : SwitchId) (byte : ℕ) (before after : ChannelState) : Type 0 where
+  pub going : is_failed before.session ≡ false → FailsAtByte u calls s byte before after
+  pub failed : (c : Cause) → before.session ≡ Failed c → after.session ≡ Failed c
+
+-- a switch whose session failed is sent nothing
+abbrev pub SendsNoneFailed : ChannelState → ChannelState → Type 0
+SendsNoneFailed before after = is_failed before.session ≡ true → after.sent ≡ before.sent
