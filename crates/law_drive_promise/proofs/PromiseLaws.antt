@@ -20,10 +20,10 @@ use Rattle.update_driver.specs.Drivers.{DriverState, channel_at, driver_after_by
 use Rattle.two_way_driver.specs.Calls.{AreTurnable}
 use Rattle.command_base.specs.declared.status.Status.{Status}
 use Rattle.command_base.specs.Runs.{IsComplete, Answered}
-use Rattle.check_base.specs.Checks.{CheckMeaning, task_in, FilesMeanPlan}
+use Rattle.check_base.specs.Checks.{task_in, FilesMeanPlan}
 use Rattle.drive_command.specs.Driving.{driven_by, IsStep, call_of, calls_of}
 use Rattle.drive_command.specs.Names.{DriveNames}
-use Rattle.drive_command.specs.Driven.{DriveMeaning, drive_dialogue, IsDriveAnswer, FilesMeanDrive, FilesAreDrivable}
+use Rattle.drive_command.specs.Driven.{DriveMeaning, drive_dialogue, IsDriveAnswer, FilesAreDrivable}
 use Rattle.drive_command.proofs.DriveLaws as command
 use Rattle.drive_command.proofs.InputLaws.{are_calls, driven_calls, taken_input}
 use Rattle.law_serve_promise.proofs.FileLaws.{old_user, new_user, turnable, drivable}

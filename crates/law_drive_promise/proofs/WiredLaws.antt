@@ -1,5 +1,5 @@
 -- The driver of `drive` does what the driver on the wire does.
-use Rattle.std.proofs.Common.{◌≡◌, ℕ, ◌<◌, Bool, true, false, cond, eqb, List, [], ◌∷◌, ◌++◌, map, refl, sym, ap, ◌∙◌, subst, append_assoc, append-nil}
+use Rattle.std.proofs.Common.{◌≡◌, ℕ, ◌<◌, Bool, true, false, cond, eqb, List, [], ◌∷◌, ◌++◌, refl, sym, ap, ◌∙◌, subst, append_assoc, append-nil}
 use Rattle.std.specs.Prelude.{Option, Some, None}
 use Rattle.std.specs.Option.{option_map_or}
 use Rattle.std.specs.List.{AllByRecursion, concat}
@@ -41,7 +41,7 @@ use Rattle.law_wire_answers.proofs.KnowingLaws.{FailedAs}
 use Rattle.law_wire_answers.proofs.CallLaws.{behind_calls, silent_is, says_answered}
 use Rattle.law_wire_answers.proofs.TurningLaws.{dead_as_told}
 use Rattle.law_wire_answers.proofs.FailingLaws.{fails_by_rules, stays_quiet}
-use Rattle.law_drive_promise.specs.Wired.{wire_calls, wire_driver, wire_texts, IsOneTalk, IsSameOnWire, SaysAsOnWire, FailedFor, FailsAtByte, SessionFails, SendsNoneFailed}
+use Rattle.law_drive_promise.specs.Wired.{wire_calls, wire_driver, IsOneTalk, IsSameOnWire, SaysAsOnWire, FailedFor, FailsAtByte, SessionFails, SendsNoneFailed}
 
 -- ---- one call more
 
