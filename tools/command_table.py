@@ -42,6 +42,7 @@ class Row(NamedTuple):
     answer: str        # the relation between what the files mean and the answer, and where it stands
     answer_in: str
     promise_in: str = ""   # where the promise stands, if not in the crate of the command
+    promise: str = ""      # the record, where it extends that of the command's crate
     kind: str = "answers"  # "serves" where lines are answered one by one, "reads_none" where no file is read
     before: tuple[Given, ...] = ()  # what the answer depends on besides, of the names of the files: a `Given` for each
     files_at: str = ""     # where among the names those of the dialogue stand, if there are others
@@ -104,7 +105,8 @@ ROWS = (
         before=(Given("start", "ℕ"), Given("count", "ℕ")), files_at="check"),
     Row("explain", "check", "check", "IsExplainAnswer", "explain_command.Explained"),
     Row("import", "import", "import", "IsImportAnswer", "import_command.Imported"),
-    Row("drive", "drive", "drive", "IsDriveAnswer", "drive_command.Driven"),
+    Row("drive", "drive", "drive", "IsDriveAnswer", "drive_command.Driven", promise_in="law_drive_promise",
+        promise="DriveWirePromise"),
     Row("serve", "check", "check", "SaysRefusal", "serve_command.Serving", promise_in="law_serve_promise",
         kind="serves"),
     Row("sample", "size", "", "SaysSummary", "sample_command.Summaries", kind="reads_none"),

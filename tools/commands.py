@@ -56,6 +56,15 @@ def promise_crate(row: Row) -> str:
     return row.promise_in or crate_of(row)
 
 
+def own_promise(row: Row) -> str:
+    """Returns the record in the crate of the command, or in that of its promise where it has none there."""
+    return f"{row.name.title()}Promise"
+
+
+def promise_of(row: Row) -> str:
+    return row.promise or own_promise(row)
+
+
 def applied(word: str, arguments: list[str]) -> str:
     """Returns the word, with arguments behind it in brackets where there are some."""
     return f"({word} {' '.join(arguments)})" if arguments else word
@@ -88,6 +97,7 @@ def fields(row: Row, rows: Sequence[Row] = ROWS) -> dict[str, str]:
         "Of": applied(f"Of{name}", of_names),
         "OfIn": applied(f"Of{name}", [f"c.in-{name}.names.{it}" for it in given]),
         "dialogue": f"{means.dialogue} names{'.' + row.files_at if row.files_at else ''}",
+        "Promise": promise_of(row),
         "comment": f"\n    // {row.comment}\n" if row.comment else "",
     }
 
@@ -137,7 +147,7 @@ def lists(rows: Sequence[Row] = ROWS) -> dict[str, str]:
     calls += [f"use {crate_of(it)}::{{SourceBeside, {it.name}}};" for it in rows if it.kind == "serves"]
     calls += [f"use {promise_crate(it)}::laws::{it.name}_promised;" for it in rows]
     promises = [(WORDS[it.words].module, WORDS[it.words].files) for it in rows if it.kind != "reads_none"]
-    promises += [(f"{promise_crate(it)}.Promise", f"{it.name.title()}Promise") for it in rows]
+    promises += [(f"{promise_crate(it)}.Promise", promise_of(it)) for it in rows]
     means = [(MEANINGS[it.means].dialogue_in, MEANINGS[it.means].dialogue) for it in answers]
     return {
         "definitions": definitions(rows),

@@ -4,7 +4,8 @@
     tools/promises.py           writes it
     tools/promises.py --check   prints where the page doesn't have it, and fails where it prints something
 
-The promise of a command is the record NAMEPromise in specs/Promise.antt of the crate that tools/command_table.py says.
+The promise of a command is the record NAMEPromise in specs/Promise.antt of the crate that tools/command_table.py says,
+or the record there that extends it; then the rows of both stand in the table.
 A row of the table is a comment in it, with the fields that stand below that comment up to the next one. In the comment
 `docs/NAME.md` becomes a link; a word in backticks that is written as a definition is (SpeakForAll) has to be one.
 """
@@ -46,7 +47,14 @@ def groups_in(text: str, record: str) -> list[tuple[str, list[str]]]:
 
 def clause_of(row: Row) -> str:
     """Returns the clause of `run` that carries the promise of a command."""
-    return row.promise_in.removeprefix("law_") or row.name
+    return f"{row.name}_promise" if row.kind == "serves" else row.name
+
+
+def records_of(row: Row) -> list[tuple[str, str]]:
+    """Returns the crate and the name of each record that the promise of a command is made of: that of the command's
+    crate, and the one that extends it, where there is one."""
+    whole = (commands.promise_crate(row), commands.promise_of(row))
+    return [(commands.crate_of(row), commands.own_promise(row)), whole] if row.promise else [whole]
 
 
 def undefined_in(comment: str, specs: str) -> list[str]:
@@ -62,12 +70,12 @@ def cell(comment: str) -> str:
 
 def rows_of(row: Row) -> list[str]:
     """Returns the rows of a command."""
-    crate = commands.promise_crate(row)
-    groups = groups_in(making.read(f"crates/{crate}/specs/Promise.antt"), f"{row.name.title()}Promise")
+    crate, record = commands.promise_crate(row), commands.promise_of(row)
+    groups = [group for crate, record in records_of(row)
+              for group in groups_in(making.read(f"crates/{crate}/specs/Promise.antt"), record)]
     specs = "\n".join(text for _, _, text in making.files_of(("specs",), crates={crate, commands.crate_of(row)}))
     wrong = [it for comment, _ in groups for it in undefined_in(comment, specs)]
     if wrong:
-        record = f"{row.name.title()}Promise"
         raise LookupError(f"a comment of {record} names {', '.join(wrong)}, which {crate} doesn't define")
     clauses = [f" `{clause_of(row)}`"] + [""] * (len(groups) - 1)
     cells = [(cell(comment), ", ".join(f"`{it}`" for it in fields)) for comment, fields in groups]

@@ -5,7 +5,7 @@ import unittest
 
 import making
 import promises
-from command_table import ROWS
+from command_table import ROWS, Row
 
 TEXT = """\
 -- What a run promises.
@@ -53,6 +53,12 @@ class Promises(unittest.TestCase):
         comment = "`OtherLine`, `Last` and `good`; `KIND`, NotARun"
         self.assertEqual(promises.undefined_in(comment, TEXT), ["OtherLine"])
         self.assertEqual(promises.undefined_in(comment, "abbrev pub OtherLine : Type 0"), [])
+
+    def test_a_record_that_extends_another_has_its_rows_behind_it(self) -> None:
+        row = Row("one", "", "", "", "", promise_in="law_one_promise")
+        self.assertEqual(promises.records_of(row), [("law_one_promise", "OnePromise")])
+        self.assertEqual(promises.records_of(row._replace(promise="OneMorePromise")),
+                         [("one_command", "OnePromise"), ("law_one_promise", "OneMorePromise")])
 
     def test_each_field_of_each_promise_is_in_the_page(self) -> None:
         page = making.read(promises.PAGE)

@@ -1,5 +1,5 @@
 mod Networks
-mod FileLaws
+pub mod FileLaws
 mod BlockLaws
 mod DriveLaws
 mod RunningLaws

@@ -32,7 +32,7 @@ ghost use Rattle.trace_command.specs.Promise.{TracePromise};
 ghost use Rattle.simulate_command.specs.Promise.{SimulatePromise};
 ghost use Rattle.explain_command.specs.Promise.{ExplainPromise};
 ghost use Rattle.import_command.specs.Promise.{ImportPromise};
-ghost use Rattle.drive_command.specs.Promise.{DrivePromise};
+ghost use Rattle.law_drive_promise.specs.Promise.{DriveWirePromise};
 ghost use Rattle.law_serve_promise.specs.Promise.{ServePromise};
 ghost use Rattle.sample_command.specs.Promise.{SamplePromise};
 ghost use Rattle.planner_cli.specs.Commands.{Config, Paths, Check, Certify, Plan, Pack, Upgrade, Emit, Replay, Tables, Trace, Simulate, Explain, Import, Drive, Serve, Sample, AsksToServe, NamesNoFile, asked_command, asked_view, dialogue, dialogue_of, IsSaid, usage_line};
@@ -46,7 +46,6 @@ use command_base::{Exit, Reply, Status};
 use config_command::config;
 use config_command::laws::config_promised;
 use drive_command::drive;
-use drive_command::laws::drive_promised;
 use emit_command::emit;
 use emit_command::laws::emit_promised;
 use explain_command::explain;
@@ -54,6 +53,7 @@ use explain_command::laws::explain_promised;
 use file_access::{Sink, Source, WriteFault, pour};
 use import_command::import;
 use import_command::laws::import_promised;
+use law_drive_promise::laws::drive_promised;
 use law_serve_promise::laws::serve_promised;
 use pack_command::laws::pack_promised;
 use pack_command::pack;
@@ -278,7 +278,7 @@ pub fn run<S: SourceBeside<K>, K: Sink>(
         → ImportPromise files names (K.written sink.old) (K.written sink.new) result }
     ensures drive { (files : Files) (names : DriveNames) → S.held source.old ≡ Some files
         → asked_command (map string_bytes words.now) ≡ Some (Drive names)
-        → DrivePromise files names (K.written sink.old) (K.written sink.new) result }
+        → DriveWirePromise files names (K.written sink.old) (K.written sink.new) result }
 
     // A plan that is served answers the lines of the standard input, one after the other.
     ensures serve { (names : CheckNames)

@@ -1,0 +1,3 @@
+mod InputsWithin
+mod WiredLaws
+mod PromiseLaws
