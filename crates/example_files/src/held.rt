@@ -68,8 +68,12 @@ fn hold_update(
 ) -> Result<(), Memory>
     requires { source.old.files ≡ [] }
     ensures { OnOk result (source.new.files ≡
-      (codes "topology", texts.now.topology.now) ∷ (codes "old", texts.now.old.now) ∷ (codes "new", texts.now.new.now)
-      ∷ (codes "policy", texts.now.policy.now) ∷ (codes "plan", plan.now) ∷ []) }
+        (codes "topology", texts.now.topology.now)
+        ∷ (codes "old", texts.now.old.now)
+        ∷ (codes "new", texts.now.new.now)
+        ∷ (codes "policy", texts.now.policy.now)
+        ∷ (codes "plan", plan.now)
+        ∷ []) }
 {
     hold(source, alloc, "topology", texts.topology)?;
     hold(source, alloc, "old", texts.old)?;
