@@ -527,7 +527,8 @@ class Policy(Checks):
 
     def source(self, item: Value, way: Sequence[int | str], number: int, known: Sequence[str]) -> Iterator[Fault]:
         value = item.member("from")
-        several = "; of several ports each has a demand of its own" if value is not None and value.kind == "list" else ""
+        is_list = value is not None and value.kind == "list"
+        several = "; of several ports each has a demand of its own" if is_list else ""
         right = f"a host port, or `any`: {PORT_WORDS}{several}"
         bad = self.of_kind(item, way, number, "from", ["text"], right, known, True)
         if bad or value is None or value.held == "any":

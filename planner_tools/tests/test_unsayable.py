@@ -30,7 +30,8 @@ class Unsayable(unittest.TestCase):
                         else:
                             value[name] = 2
                         [what] = self.said(kind, value)
-                        self.assertTrue(what.endswith(f"counts for nothing: this version can't say it, {without}"), what)
+                        ending = f"counts for nothing: this version can't say it, {without}"
+                        self.assertTrue(what.endswith(ending), what)
 
     def test_none_of_them_is_a_member(self):
         for of, names in UNSAYABLE.items():
