@@ -4,8 +4,8 @@
 -- counted from 1 as its waits are. Round 1 lays the tagged rules, rounds 2 to F + 1 lay the ingress rules, F + 2 and F + 3 exchange the raw rules,
 -- F + 4 to 2F + 3 take the ingress rules away, and 2F + 4 takes the tagged ones. Waits at F + 2 and 2F + 4 make three spans. What a span needs
 -- besides the certificates of its rounds is this: a packet that went on from its entry in round r, with the user's VLAN or with its tag, keeps to
--- the path of that version in each later round of the span. On that path it comes in by no host port, so no ingress rule covers it, and whether it
--- is covered by raw rules or by tagged ones is told by its VLAN alone.
+-- the path of that version in each later round of the span. On that path it comes in by no host port, so no ingress rule covers it, and its VLAN says
+-- whether the raw rules decide or the tagged ones.
 --
 -- In rounds 1 to F + 1 the user's VLAN says the old version. A packet with it meets raw rules, and these are the old ones throughout, since only
 -- rules of the bands are laid. A packet with a tag went on behind round 1: it meets the tagged rules, and all of them stand from round 2 on.
@@ -16,8 +16,8 @@
 --
 -- The last round is a span alone.
 --
--- Nothing of this depends on demands or their waypoints, nor on whether a round changes anything at a switch or at all. Where the tables of both
--- versions agree in part, a packet with the user's VLAN is told apart by the label table of its round, which changes with the first wait.
+-- Nothing of this depends on demands or their waypoints, nor on whether a round changes anything at a switch or at all. Where both versions agree at
+-- an entry, a packet with the user's VLAN is of the version that the label table of its round says, and this changes with the first wait alone.
 use Rattle.std.proofs.Common.{◌≡◌, ◌⊎◌, ℕ, suc, ◌+◌, ◌*◌, ◌<◌, ◌≤◌, Bool, true, false, List, length, refl, inl, inr, arith}
 use Rattle.std.proofs.lemmas.Bool.{cases_lt}
 use Rattle.net_base.specs.declared.ids.SwitchId.{SwitchId}
@@ -67,7 +67,8 @@ module _ (net : Network) (old new : List (List Rule)) (mark : SwitchId → Rule 
       let e = layered_count in
       record { ascending = ((omega arith), tt); behind_first = ((omega arith), ((omega arith), tt)); within = ((omega arith), ((omega arith), tt)) }
 
-module _ (net : Network) (net_is : IsNetwork net) (old new : List (List Rule)) (old_user : IsUserConfig net old) (new_user : IsUserConfig net new) (fits : FitsTwoPhase net old new)
+module _ (net : Network) (net_is : IsNetwork net) (old new : List (List Rule)) (old_user : IsUserConfig net old)
+    (new_user : IsUserConfig net new) (fits : FitsTwoPhase net old new)
     (mark : SwitchId → Rule → ℕ) (before : ℕ → ℕ → Type 0) (layers : ℕ) (laid taken : List ℕ) (layering : IsLayering net new mark before layers laid taken)
     (demands : List DemandView) (tried : List (List Change)) where
   abbrev pub t : Task
@@ -90,7 +91,8 @@ module _ (net : Network) (net_is : IsNetwork net) (old new : List (List Rule)) (
   tags = tagging net net_is fits.tags
 
   module _ (certified : IsCertified t (TwoPhase evidence)) where
-    labelled : (span : Span) (r : ℕ) → HasRound span r → span.last < length t.rounds → (version : Bool) → IsOfVersion layers r version → AreBehind r span.last version
+    labelled : (span : Span) (r : ℕ) → HasRound span r → span.last < length t.rounds → (version : Bool) → IsOfVersion layers r version
+        → AreBehind r span.last version
         → (n : ℕ) (class : Class) → IsClass (classes_for t) n class → IsLabelledInSpan u new evidence span r class.first class.entry
     labelled span r has less version of behind n class is_class =
         let from = has.0 in
@@ -101,7 +103,8 @@ module _ (net : Network) (net_is : IsNetwork net) (old new : List (List Rule)) (
         let banded = banded_at net net_is tags old new old_user new_user mark before layers laid taken layering fits.room in
         record {
           alone = alone;
-          later = labelled_until u new net_is tags old_user new_user class.first small class.entry entry layers r span.last version evidence refl refl of alone (banded r (omega arith))
+          later = labelled_until u new net_is tags old_user new_user class.first small class.entry entry layers r span.last version evidence refl refl of alone
+              (banded r (omega arith))
               (λ k ge le. (banded k (omega arith), (behind k ge le).0, (behind k ge le).1));
         }
 

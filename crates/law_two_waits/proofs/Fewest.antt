@@ -25,7 +25,9 @@ module _ (net : Network) (old new : List (List Rule)) (mark : SwitchId → Rule 
   rounds = layered_rounds net old new mark laid taken
 
   pub certified_by_two : IsCertifiedByTwo net old new demands (layered_plan net rounds layers tried) layers
-  certified_by_two promised = with_two_waits net promised.network old new promised.old_user promised.new_user promised.fits mark before layers laid taken layering demands tried promised.certified
+  certified_by_two promised =
+      with_two_waits net promised.network old new promised.old_user promised.new_user promised.fits mark before layers laid taken layering demands tried
+      promised.certified
 
   module _ (promised : IsPromised net old new demands (layered_plan net rounds layers tried)) (waits : List ℕ)
       (greedy : IsGreedyCut (task_by net old new rounds demands) (TwoPhase (layered_evidence net layers tried)) waits) where
@@ -40,17 +42,23 @@ module _ (net : Network) (old new : List (List Rule)) (mark : SwitchId → Rule 
               let (span, is, has) = span_of waits (length rounds) q (omega arith) in
               let from = has.0 in
               let to = has.1 in
-              let ends : span.last ≤ q = elim (cases_lt q span.last) [ inl behind ↦ absurd (is.unbroken (suc q) (omega arith) (omega arith) i) | inr no_later ↦ no_later ] in
+              let ends : span.last ≤ q = elim (cases_lt q span.last) [
+                | inl behind ↦ absurd (is.unbroken (suc q) (omega arith) (omega arith) i)
+                | inr no_later ↦ no_later
+              ] in
               absurd (greedy.no_longer span is (omega arith)
-              (part_certified net promised.network old new promised.old_user promised.new_user promised.fits mark before layers laid taken layering demands tried promised.certified
+              (part_certified net promised.network old new promised.old_user promised.new_user promised.fits mark before layers laid taken layering
+              demands tried promised.certified
               (record { first = span.first; last = suc span.last }) (record { first = 0; last = layers }) ((omega arith), (omega arith))
-              (first_certified net promised.network old new promised.old_user promised.new_user promised.fits mark before layers laid taken layering demands tried promised.certified))))
+              (first_certified net promised.network old new promised.old_user promised.new_user promised.fits mark before layers laid taken layering
+              demands tried promised.certified))))
           | inr late ↦ omega arith
         ]
 
     no_more : length waits ≤ 2
     no_more =
-        fewest_two_phase (task_by net old new rounds demands) (layered_evidence net layers tried) waits (waits_by layers) greedy (two_are_waits net old new mark before layers laid taken layering)
+        fewest_two_phase (task_by net old new rounds demands) (layered_evidence net layers tried) waits (waits_by layers) greedy
+        (two_are_waits net old new mark before layers laid taken layering)
         (certified_by_two promised)
 
   pub at_most_two : NeedsAtMostTwo net old new demands (layered_plan net rounds layers tried) layers

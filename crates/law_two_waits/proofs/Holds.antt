@@ -38,7 +38,8 @@ OfIngress p = 32768 ≤ p
 abbrev pub OfRaw : ℕ → Type 0
 OfRaw p = p ≤ 16383
 
-module _ (net : Network) (net_is : IsNetwork net) (tags : IsTagging net) (old new : List (List Rule)) (old_user : IsUserConfig net old) (new_user : IsUserConfig net new)
+module _ (net : Network) (net_is : IsNetwork net) (tags : IsTagging net) (old new : List (List Rule))
+    (old_user : IsUserConfig net old) (new_user : IsUserConfig net new)
     (mark : SwitchId → Rule → ℕ) (before : ℕ → ℕ → Type 0) (layers : ℕ) (laid taken : List ℕ) (layering : IsLayering net new mark before layers laid taken)
     (room : (s : SwitchId) → s.0 < switch_count net → two_phase_need net old new s ≤ capacity_of net s) where
   abbrev pub u : Rollout
@@ -63,7 +64,8 @@ module _ (net : Network) (net_is : IsNetwork net) (tags : IsTagging net) (old ne
   low_tagged : (s : SwitchId) (r : Rule) → IsIn r (tagged net net_is tags old new new_user mark before layers laid taken layering s) → OfTagged r.key.priority
   low_tagged s r i = (tagged_low net s (rules_at new s) (new_user.rules s) r i, tagged_high net s (rules_at new s) (new_user.rules s) r i)
 
-  low_ingress : (s : SwitchId) (r : Rule) → IsIn r (ingress net net_is tags old new new_user mark before layers laid taken layering s) → OfIngress r.key.priority
+  low_ingress : (s : SwitchId) (r : Rule) → IsIn r (ingress net net_is tags old new new_user mark before layers laid taken layering s)
+      → OfIngress r.key.priority
   low_ingress s r i = ingress_low net s (rules_at new s) (new_user.rules s) r i
 
   named_low : (s : SwitchId) (c : Change) → IsDifference s (rules_at old s) (rules_at new s) c → OfRaw (key_named c).priority
@@ -132,7 +134,8 @@ module _ (net : Network) (net_is : IsNetwork net) (tags : IsTagging net) (old ne
   pub banded_at : (k : ℕ) → k < length u.rounds → OfMixtures u new k (λ s mixed. IsBanded net s (rules_at new s) mixed)
   banded_at k less = (sound k less).banded
 
-  early_version : (k : ℕ) (version : Bool) → k ≤ layers → IsOfVersion layers k version → IsRawVersion u new k version ⊎ ((version ≡ true) × IsMasked u new k) → IsRawVersion u new k false
+  early_version : (k : ℕ) (version : Bool) → k ≤ layers → IsOfVersion layers k version
+      → IsRawVersion u new k version ⊎ ((version ≡ true) × IsMasked u new k) → IsRawVersion u new k false
   early_version k true early of raws = absurd (omega arith)
   early_version k false early of (inl raws) = raws
   early_version k false early of (inr masked) = absurd (both_ways false refl masked.0)
@@ -150,7 +153,8 @@ module _ (net : Network) (net_is : IsNetwork net) (tags : IsTagging net) (old ne
     tagged_stand k some within s inside mixed held q i =
         let rounds = count in
         let band = low_tagged s q i in
-        let begun : StandsBefore u good s q 1 = inserted_before u good s q 0 (omega arith) (lays_tagged net net_is tags old new new_user mark before layers laid taken layering s q inside i) in
+        let begun : StandsBefore u good s q 1 = inserted_before u good s q 0 (omega arith)
+        (lays_tagged net net_is tags old new new_user mark before layers laid taken layering s q inside i) in
         kept_in_mixture OfTagged (tables_before u k) (round_at k) (good k (omega arith)) (spares_tagged k some within) s q band
         (kept_until u good s q OfTagged band (k - 1) 1 k (omega arith) (omega arith) (λ j ge less. spares_tagged j ge (omega arith)) begun) mixed held
 

@@ -37,14 +37,15 @@ module _ (InBand : ℕ → Type 0) where
   abbrev pub Spares : List Change → Type 0
   Spares round = (c : Change) → IsIn c round → (is_insert c ≡ true) ⊎ (¬ InBand (key_named c).priority)
 
-  module _ (tables : List (List Rule)) (round : List Change) (good : IsGoodRound tables round) (spares : Spares round) (s : SwitchId) (r : Rule) (band : InBand r.key.priority)
-      (stands : IsIn r (rules_at tables s)) where
+  module _ (tables : List (List Rule)) (round : List Change) (good : IsGoodRound tables round) (spares : Spares round) (s : SwitchId) (r : Rule)
+      (band : InBand r.key.priority) (stands : IsIn r (rules_at tables s)) where
     not_named : (made : List Change) → IsSubsequence made (changes_at s round) → ¬ IsIn r.key (map key_named made)
     not_named made some named =
         let (c, i, e) = in_from_map key_named r.key made named in
         let here = in_from_subsequence c made (changes_at s round) some i in
         elim (spares c (in_from_filter (λ x. (switch_of x).0 == s.0) c round here).0) [
-          | inl inserts ↦ absent (rules_at tables s) c inserts (each_at (AppliesTo (rules_at tables s)) (changes_at s round) c (applies_here tables round good s) here)
+          | inl inserts ↦ absent (rules_at tables s) c inserts
+              (each_at (AppliesTo (rules_at tables s)) (changes_at s round) c (applies_here tables round good s) here)
               (subst (λ k. IsIn k (keys_of (rules_at tables s))) e (in_map (λ x. x.key) r (rules_at tables s) stands))
           | inr out ↦ out (subst (λ k. InBand k.priority) e band)
         ]
@@ -90,7 +91,8 @@ module _ (u : Rollout) (good : AreGoodRounds u) (s : SwitchId) (r : Rule) where
 
   module _ (InBand : ℕ → Type 0) (band : InBand r.key.priority) where
     -- over rounds that spare the band a rule of it stays
-    pub kept_until : (more k n : ℕ) → n ≡ k + more → n ≤ length u.rounds → ((j : ℕ) → k ≤ j → j < n → Spares InBand (round_after j u.rounds)) → StandsBefore k → StandsBefore n
+    pub kept_until : (more k n : ℕ) → n ≡ k + more → n ≤ length u.rounds → ((j : ℕ) → k ≤ j → j < n → Spares InBand (round_after j u.rounds))
+        → StandsBefore k → StandsBefore n
     kept_until zero k n e within spares i = subst StandsBefore (let f : k ≡ n = omega arith in f) i
     kept_until (suc more) k n e within spares i =
         kept_until more (suc k) n (omega arith) within (λ j ge less. spares j (omega arith) less)
@@ -98,8 +100,10 @@ module _ (u : Rollout) (good : AreGoodRounds u) (s : SwitchId) (r : Rule) where
         (kept_after InBand (tables_before u k) (round_after k u.rounds) (good k (omega arith)) (spares k (omega arith) (omega arith)) s r band i))
 
   -- over rounds that delete no rule comes
-  pub stood_from : (more k n : ℕ) → n ≡ k + more → n ≤ length u.rounds → ((j : ℕ) → k ≤ j → j < n → Deletes (round_after j u.rounds)) → StandsBefore n → StandsBefore k
+  pub stood_from : (more k n : ℕ) → n ≡ k + more → n ≤ length u.rounds → ((j : ℕ) → k ≤ j → j < n → Deletes (round_after j u.rounds))
+      → StandsBefore n → StandsBefore k
   stood_from zero k n e within deletes i = subst StandsBefore (let f : n ≡ k = omega arith in f) i
   stood_from (suc more) k n e within deletes i =
       stood_of_after (tables_before u k) (round_after k u.rounds) (good k (omega arith)) (deletes k (omega arith) (omega arith)) s r
-      (subst (λ tables. IsIn r (rules_at tables s)) (next_is k (omega arith)) (stood_from more (suc k) n (omega arith) within (λ j ge less. deletes j (omega arith) less) i))
+      (subst (λ tables. IsIn r (rules_at tables s)) (next_is k (omega arith))
+      (stood_from more (suc k) n (omega arith) within (λ j ge less. deletes j (omega arith) less) i))

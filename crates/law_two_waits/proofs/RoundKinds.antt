@@ -1,5 +1,6 @@
 -- What kind of round each round of a two-phase plan is.
-use Rattle.std.proofs.Common.{◌≡◌, ℕ, zero, suc, ◌+◌, ◌-◌, ◌*◌, ◌<◌, ◌≤◌, List, [], ◌∷◌, ◌++◌, map, length, refl, sym, ◌∙◌, subst, ap, inl, inr, arith, append_assoc}
+use Rattle.std.proofs.Common.{◌≡◌, ℕ, zero, suc, ◌+◌, ◌-◌, ◌*◌, ◌<◌, ◌≤◌, List, [], ◌∷◌, ◌++◌, map, length}
+use Rattle.std.proofs.Common.{refl, sym, ◌∙◌, subst, ap, inl, inr, arith, append_assoc}
 use Rattle.std.specs.Prelude.{◌==◌, filter, not}
 use Rattle.std.proofs.lemmas.Bool.{cases_lt, eq-eqb}
 use Rattle.std.proofs.lemmas.List.{length-map}
@@ -35,13 +36,15 @@ round_behind (x ∷ xs) ys zero i e = absurd (omega arith)
 round_behind (x ∷ xs) ys (suc k) i e = round_behind xs ys k i (omega arith)
 
 -- each number has its round
-round_of : (f : ℕ → List Change) (ns : List ℕ) (ys : List (List Change)) (m : ℕ) → IsIn m ns → (i : ℕ) × (i < length ns) × (round_after i (map f ns ++ ys) ≡ f m)
+round_of : (f : ℕ → List Change) (ns : List ℕ) (ys : List (List Change)) (m : ℕ) → IsIn m ns
+    → (i : ℕ) × (i < length ns) × (round_after i (map f ns ++ ys) ≡ f m)
 round_of f [] ys m i = absurd i
 round_of f (n ∷ ns) ys m (inl e) = (0, (omega arith), ap f (sym e))
 round_of f (n ∷ ns) ys m (inr i) = let (j, less, is) = round_of f ns ys m i in (suc j, (omega arith), is)
 
 module _ (net : Network) (net_is : IsNetwork net) (tags : IsTagging net) (old new : List (List Rule)) (new_user : IsUserConfig net new)
-    (mark : SwitchId → Rule → ℕ) (before : ℕ → ℕ → Type 0) (layers : ℕ) (laid taken : List ℕ) (layering : IsLayering net new mark before layers laid taken) where
+    (mark : SwitchId → Rule → ℕ) (before : ℕ → ℕ → Type 0) (layers : ℕ) (laid taken : List ℕ)
+    (layering : IsLayering net new mark before layers laid taken) where
   abbrev pub tagged : SwitchId → List Rule
   tagged s = tagged_rules net s (rules_at new s)
 
@@ -129,7 +132,8 @@ module _ (net : Network) (net_is : IsNetwork net) (tags : IsTagging net) (old ne
       let a = count_laid in
       elim (cases_lt j layers) [
         | inl sooner ↦ Lays (omega arith) (laid_is (round_after j (map lay laid ++ behind_laying)) (round_in (map lay laid) behind_laying j (omega arith)))
-        | inr later ↦ subst (IsKind (suc j)) (sym (round_behind (map lay laid) behind_laying j (j - layers) (omega arith))) (kind_behind (suc j) (j - layers) (omega arith) (omega arith))
+        | inr later ↦ subst (IsKind (suc j)) (sym (round_behind (map lay laid) behind_laying j (j - layers) (omega arith)))
+            (kind_behind (suc j) (j - layers) (omega arith) (omega arith))
       ]
 
   -- the rounds between the first and the last
@@ -137,25 +141,23 @@ module _ (net : Network) (net_is : IsNetwork net) (tags : IsTagging net) (old ne
   kind_of zero some within = absurd (omega arith)
   kind_of (suc j) some within = subst (λ rounds. IsKind (suc j) (round_after (suc j) rounds)) (sym rounds_are) (kind_in_turn j (omega arith))
 
-  -- the first round lays tagged rules, and all of them
-  pub first_lays : (c : Change) → IsIn c (round_after 0 plan_rounds) → IsChangeOf Insert tagged c
-  first_lays c i =
-      let (s, r, e, _, j) = (by_switch_sweeps net Insert (λ s r. refl) (λ s r. refl) tagged tagged_table).each c (subst (λ rounds. IsIn c (round_after 0 rounds)) rounds_are i) in
-      (s, r, e, j)
-
+  -- the first round lays all tagged rules
   pub lays_tagged : (s : SwitchId) (r : Rule) → s.0 < switch_count net → IsIn r (tagged s) → IsIn (Insert s r) (round_after 0 plan_rounds)
   lays_tagged s r within i =
-      subst (λ rounds. IsIn (Insert s r) (round_after 0 rounds)) (sym rounds_are) ((by_switch_sweeps net Insert (λ s r. refl) (λ s r. refl) tagged tagged_table).every s r within i)
+      subst (λ rounds. IsIn (Insert s r) (round_after 0 rounds)) (sym rounds_are)
+      ((by_switch_sweeps net Insert (λ s r. refl) (λ s r. refl) tagged tagged_table).every s r within i)
 
   -- each ingress rule is laid in one of the next rounds
-  pub lays_ingress : (s : SwitchId) (r : Rule) → s.0 < switch_count net → IsIn r (ingress s) → (k : ℕ) × (1 ≤ k) × (k ≤ layers) × IsIn (Insert s r) (round_after k plan_rounds)
+  pub lays_ingress : (s : SwitchId) (r : Rule) → s.0 < switch_count net → IsIn r (ingress s)
+      → (k : ℕ) × (1 ≤ k) × (k ≤ layers) × IsIn (Insert s r) (round_after k plan_rounds)
   lays_ingress s r within i =
       let (j, less, is) = round_of lay laid behind_laying (mark s r) (layering.in_laid s within r i) in
       let a = layering.laid_count in
       let here : IsIn (Insert s r) (lay (mark s r)) =
       (by_switch_sweeps net Insert (λ s r. refl) (λ s r. refl) (of_mark net new mark (mark s r)) (mark_table (mark s r))).every s r within
       (in_filter (λ q. mark s q == mark s r) r (ingress s) i (eq-eqb (mark s r) (mark s r) refl)) in
-      (suc j, (omega arith), (omega arith), subst (λ rounds. IsIn (Insert s r) (round_after (suc j) rounds)) (sym rounds_are) (subst (IsIn (Insert s r)) (sym is) here))
+      let in_turn = subst (IsIn (Insert s r)) (sym is) here in
+      (suc j, (omega arith), (omega arith), subst (λ rounds. IsIn (Insert s r) (round_after (suc j) rounds)) (sym rounds_are) in_turn)
 
   -- the last round takes tagged rules away
   pub last_takes : (c : Change) → IsIn c (round_after (2 * layers + 3) plan_rounds) → IsChangeOf Delete tagged c
