@@ -1,5 +1,5 @@
 //! How seldom a two-phase plan waits for packets. Each law is a function that does nothing: its contract is the law.
-ghost use Rattle.std.specs.Prelude.{◌≡◌, List, length};
+ghost use Rattle.std.specs.Prelude.{List, length};
 ghost use Rattle.topology.specs.Networks.{Network};
 ghost use Rattle.flow_rules.specs.declared.rules.Rule.{Rule};
 ghost use Rattle.demands.specs.Duties.{DemandView};
