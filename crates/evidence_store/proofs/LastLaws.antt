@@ -1,5 +1,5 @@
 -- The least guards of one walk are those of another with the same steps and the same switches where a packet may leave.
-use Rattle.std.proofs.Common.{◌≡◌, ℕ, List, Option, Some, refl, sym, ◌∙◌, subst}
+use Rattle.std.proofs.Common.{◌≡◌, ◌⊎◌, ℕ, zero, suc, List, [], ◌∷◌, Some, set, refl, sym, subst, inl, inr}
 use Rattle.net_base.specs.Members.{IsIn}
 use Rattle.net_base.specs.declared.ids.SwitchId.{SwitchId}
 use Rattle.net_base.proofs.MemberLaws.{each_weaker}
@@ -14,7 +14,7 @@ use Rattle.waypoint_evidence.specs.Befores.{IsLeastBefore}
 use Rattle.certificates.specs.Ordered.{Position, positions}
 use Rattle.mixed_walks.specs.Walks.{WalkState}
 use Rattle.evidence_store.specs.Guards.{IsLeastGuard, AreGuardsFound}
-use Rattle.evidence_store.specs.Last.{SetsState, HoldsSets, HoldsLast, noted_as}
+use Rattle.evidence_store.specs.Last.{SetsState, HoldsSets, noted_as}
 
 module _ (net : Network) (start : SwitchId) (noted other : WalkState) (p : noted.steps ≡ other.steps) (q : noted.leaving ≡ other.leaving) where
   least_there : (at : Position) → IsLeastGuard net start noted at → IsLeastGuard net start other at
@@ -46,6 +46,11 @@ holds_of net d of noted sets s is number found =
       guards = guards_there net of.class.entry.switch noted (noted_as noted.steps noted.leaving) refl refl (duties_of d.demands of.class.entry of.class.first).chains sets found;
     })
 
--- the sets that are there hold
-pub holds_some : (net : Network) (d : ClassDuties) (last kept : Option SetsState) (s : SetsState) → kept ≡ last → kept ≡ Some s → HoldsLast net d last → HoldsSets net d s
-holds_some net d last kept s is there held = subst (HoldsLast net d) (sym is ∙ there) held
+-- what stands in a list with a thing in another's place
+pub in_set : {A : Type 0} (xs : List A) (i : ℕ) (y x : A) → IsIn x (set xs i y) → IsIn x xs ⊎ (x ≡ y)
+in_set [] i y x j = inl j
+in_set (z ∷ xs) zero y x j = elim j [ inl e ↦ inr e | inr k ↦ inl (inr k) ]
+in_set (z ∷ xs) (suc i) y x j = elim j [
+  | inl e ↦ inl (inl e)
+  | inr k ↦ elim (in_set xs i y x k) [ inl m ↦ inl (inr m) | inr e ↦ inr e ]
+]

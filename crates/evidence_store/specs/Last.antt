@@ -1,5 +1,6 @@
 -- The least before sets that were found last.
-use Rattle.std.specs.Prelude.{ℕ, List, [], Option, Some, IfSome}
+use Rattle.std.specs.Prelude.{ℕ, List, [], Some}
+use Rattle.net_base.specs.Members.{IsIn}
 use Rattle.net_base.specs.declared.ids.SwitchId.{SwitchId}
 use Rattle.topology.specs.Networks.{Network}
 use Rattle.acyclic_numbering.specs.declared.Edge.{Edge}
@@ -25,6 +26,6 @@ pub record HoldsSets (net : Network) (d : ClassDuties) (s : SetsState) : Type 0 
   pub class : IsNumbered d.classes s.class
   pub guards : AreGuardsFound net s.class.class.entry.switch (noted_as s.steps s.leaving) (duties_of d.demands s.class.class.entry s.class.class.first).chains (Some s.sets)
 
--- so it is with the sets that were found last, if any were
-abbrev pub HoldsLast : Network → ClassDuties → Option SetsState → Type 0
-HoldsLast net d last = IfSome last (HoldsSets net d)
+-- so it is with each of the sets that are kept
+abbrev pub HoldsLast : Network → ClassDuties → List SetsState → Type 0
+HoldsLast net d kept = (s : SetsState) → IsIn s kept → HoldsSets net d s

@@ -47,7 +47,7 @@ fn keeps_range(_numbers: &[u16])
 /// Evidence that keeps the class safe in the round whose mixed walks of it were walked last: the heights of the switches
 /// and the least before sets. None where no numbering and no before sets keep it safe: the steps have a cycle, or a packet
 /// that must arrive may be discarded, or may leave without having met a waypoint. Where the class has the start, the duties
-/// and the walks of the one for which the least before sets were found last, it takes these. Otherwise it takes time by the
+/// and the walks of one for which least before sets are kept, it takes these. Otherwise it takes time by the
 /// switches times the steps for each position; for the heights by the steps where these stand in the order of a walk.
 pub fn evidence_by_last(
     alloc: Global,

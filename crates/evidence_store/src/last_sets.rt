@@ -1,4 +1,4 @@
-//! The least before sets that were found last: classes that differ in the address often have the same walks and the same duties.
+//! The least before sets that were found last: classes that differ in the address often have the walks and the duties of one before.
 ghost use Rattle.std.specs.Prelude.{◌≡◌, ◌<◌, List, ℕ, true, IfOk, IfSome, OnOk, Some};
 ghost use Rattle.topology.specs.Networks.{Network, switch_count};
 ghost use Rattle.dest_classes.specs.Classes.{class_count};
@@ -37,19 +37,23 @@ impl Model for ClassSets {
     ghost view = { λ s. record { class = s.class; steps = s.steps.items; leaving = s.leaving.items; sets = s.befores } };
 }
 
-/// The least before sets that were found last, if any were.
+/// How many classes' sets are kept at most: so many as find those of the row before where hundreds of prefixes have chains of their own.
+const MOST_KEPT: usize = 1024;
+
+/// The least before sets that were found last, of at most 1024 classes. More take the places of the first ones.
 #[derive(Drop)]
 pub struct LastSets {
-    last: Option<ClassSets>,
+    kept: Vec<ClassSets>,
+    next: usize,
 }
 
 impl Model for LastSets {
-    ghost use Rattle.std.specs.Prelude.{Option};
+    ghost use Rattle.std.specs.Prelude.{List};
     ghost use Rattle.evidence_store.specs.Last.{SetsState};
 
-    ghost Value = { Option SetsState };
+    ghost Value = { List SetsState };
 
-    ghost view = { λ s. s.last };
+    ghost view = { λ s. s.kept.items };
 }
 
 /// The same sets once more.
@@ -112,14 +116,17 @@ impl ClassSets {
 
 impl LastSets {
     /// No sets were found.
-    pub fn none() -> LastSets
+    pub fn none(alloc: Global) -> LastSets
         ensures { (net : Network) (d : ClassDuties) → HoldsLast net d result }
     {
-        LastSets { last: None }
+        LastSets {
+            kept: Vec::new(alloc),
+            next: 0,
+        }
     }
 
-    /// The sets once more, where they are those of the class, whose walks are those that were walked last: its start, duties
-    /// and walks are those of the class for which they were found.
+    /// Sets that are those of the class once more, if some are kept, where its walks are those that were walked last: its
+    /// start, duties and walks are those of the class for which they were found.
     fn sets_of(
         &self,
         alloc: Global,
@@ -136,11 +143,11 @@ impl LastSets {
             (duties_of duties.now.demands numbered.class.entry numbered.class.first).chains
             (Some sets))) }
     {
-        let Some(sets) = &self.last else {
-            return Ok(None);
-        };
-        if sets.are_for(duties, numbered) && sets.have_walks(walk) {
-            return Ok(Some(all_copied(alloc, sets.befores.list())?));
+        for i in 0..self.kept.len() {
+            let sets = &self.kept[i];
+            if sets.are_for(duties, numbered) && sets.have_walks(walk) {
+                return Ok(Some(all_copied(alloc, sets.befores.list())?));
+            }
         }
         Ok(None)
     }
@@ -160,14 +167,22 @@ impl LastSets {
             (duties_of d.demands numbered.class.entry numbered.class.first).chains
             (Some befores.now) → HoldsLast net d self.new) }
     {
-        if !befores.list().is_empty() {
-            self.last = Some(ClassSets::of(alloc, walk, numbered, befores)?);
+        if befores.list().is_empty() {
+            return Ok(());
         }
+        let sets = ClassSets::of(alloc, walk, numbered, befores)?;
+        if self.kept.len() < MOST_KEPT {
+            self.kept.push(sets)?;
+            return Ok(());
+        }
+        let next = self.next % self.kept.len();
+        self.kept[next] = sets;
+        self.next = next + 1;
         Ok(())
     }
 
     /// The least before sets of all positions of a class, as `least_befores` finds them; they are not looked for where they are
-    /// those that were found last.
+    /// among those that are kept.
     pub(crate) fn least_befores(
         &mut self,
         alloc: Global,

@@ -312,7 +312,7 @@ fn judge_met(
         → AreMetJudged goal.now u tried.now.store.now.evidence k verdict watch.new.came.items) }
     ensures count { length watch.new.came.items ≡ length watch.old.came.items }
 {
-    let mut last = LastSets::none();
+    let mut last = LastSets::none(alloc);
     let mut found = Vec::new(alloc);
     let failing = judge_touched(goal, watch, tried, looked, &mut last, &mut found);
     drop(last);
@@ -423,7 +423,7 @@ fn judge_rest(
 {
     let mut before = met;
     before.reverse();
-    let mut last = LastSets::none();
+    let mut last = LastSets::none(alloc);
     let mut found = Vec::new(alloc);
     let failing = judge_each(goal, watch, tried, &mut last, &mut before, &mut found);
     drop(before);

@@ -173,7 +173,7 @@ pub(crate) fn failure_beside(
         → AreWatched goal.now tables changes watch.old.came.items watch.new.came.items) }
     ensures count { length watch.new.came.items ≡ length watch.old.came.items }
 {
-    let mut last = LastSets::none();
+    let mut last = LastSets::none(alloc);
     if let Some(failure) = classes_failure(goal, watch, tried, looked, &mut last, true)? {
         return Ok(Some(failure));
     }
@@ -196,7 +196,7 @@ pub(crate) fn all_safe(
         → ArePreparedFor goal.now.net mixes.now tables changes
         → AreJudged goal.now tables changes watch.new.came.items safe) }
 {
-    let mut last = LastSets::none();
+    let mut last = LastSets::none(alloc);
     for number in 0..goal.count() {
         let class = goal.numbered(number);
         if !is_safe(alloc, goal, watch, mixes, &mut last, class)? {

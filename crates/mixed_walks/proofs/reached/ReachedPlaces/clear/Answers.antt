@@ -23,8 +23,8 @@ invariant_of-self c =
     let emptied : AreEmptied slots places.items left = subst (λ (xs : List Place). AreEmptied slots xs left) c.deref.ensures.value c.empty_slots.ensures.taken in
     let chained : IsChained [] left [] = chained_none left (λ n. emptied_slot 65536 places.items (vec_capacity places) slots c.self.inside.switches c.self.invariant.0 left emptied n) in (
       subst (λ (xs : List Place). IsPlaceList 65536 xs (vec_capacity c.clear.new.self) left c.clear-3.new.self) (sym c.clear.ensures.items)
-      (places_cleared 65536 places.items (vec_capacity places) slots c.self.inside.switches c.self.invariant.0 (vec_capacity c.clear.new.self) left c.clear-3.new.self room c.empty_slots.ensures.count emptied c.clear-3.ensures),
+          (places_cleared 65536 places.items (vec_capacity places) slots c.self.inside.switches c.self.invariant.0 (vec_capacity c.clear.new.self) left c.clear-3.new.self room c.empty_slots.ensures.count emptied c.clear-3.ensures),
       subst (λ (xs : List Place). IsChained (map slot_number xs) left c.clear-2.new.self.items) (sym c.clear.ensures.items)
-      (subst (λ (xs : List ℕ). IsChained [] left xs) (sym c.clear-2.ensures.items) chained),
+          (subst (λ (xs : List ℕ). IsChained [] left xs) (sym c.clear-2.ensures.items) chained),
       (let e = c.clear-2.ensures.capacity in let r = c.self.invariant.2 in omega arith),
     )

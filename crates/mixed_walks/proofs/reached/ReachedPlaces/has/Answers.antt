@@ -71,7 +71,7 @@ passing-preserved c =
     let read : from ≡ get_or before (number - 1) 0 = sym (get_or_default before (number - 1) 0 from near ∙ sym c.index-in-passing-2.ensures) in
     let other : passed ≢ place = λ e. false≢true (sym c.if-is_same.false ∙ c.is_same.ensures.1 (sym e)) in
     let alike : slot_number passed ≡ slot_number place =
-        c.passing.invariant.alike passed t (subst (λ (xs : List Place). slice_get xs (number - 1) ≡ Some passed) c.self.view_is at) in
+    c.passing.invariant.alike passed t (subst (λ (xs : List Place). slice_get xs (number - 1) ≡ Some passed) c.self.view_is at) in
     let none : IsNoneFrom places place number = subst (λ (xs : List Place). IsNoneFrom xs place number) (sym c.self.view_is) c.passing.invariant.none in
     let le : from ≤ number - 1 = earlier_before places slots before c.self.invariant.1 place number passed at from read in
     record {

@@ -46,18 +46,18 @@ invariant_of-self c =
     let last : ℕ = c.len.result + 1 in
     let is_last : last ≡ length places.items + 1 = let e = c.len.ensures in let len = places.ok.0 in omega arith in
     let chained : IsChained (map slot_number (places.items ++ place ∷ [])) (set slots n last) (before.items ++ c.index.result.now ∷ []) =
-        subst (λ (xs : List ℕ). IsChained xs (set slots n last) (before.items ++ c.index.result.now ∷ [])) (sym (map-push slot_number places.items place))
-        (subst (λ (k : ℕ). IsChained (map slot_number places.items ++ k ∷ []) (set slots n last) (before.items ++ c.index.result.now ∷ [])) is
-        (subst (λ (k : ℕ). IsChained (map slot_number places.items ++ n ∷ []) (set slots n last) (before.items ++ k ∷ [])) read
-        (chained_more (map slot_number places.items) slots before.items c.self.invariant.1
-        (λ m. let w = c.self.invariant.0.within m in let l = length-map places.items slot_number in omega arith) n near last (let l = length-map places.items slot_number in omega arith))))
+    subst (λ (xs : List ℕ). IsChained xs (set slots n last) (before.items ++ c.index.result.now ∷ [])) (sym (map-push slot_number places.items place))
+    (subst (λ (k : ℕ). IsChained (map slot_number places.items ++ k ∷ []) (set slots n last) (before.items ++ c.index.result.now ∷ [])) is
+    (subst (λ (k : ℕ). IsChained (map slot_number places.items ++ n ∷ []) (set slots n last) (before.items ++ k ∷ [])) read
+    (chained_more (map slot_number places.items) slots before.items c.self.invariant.1
+    (λ m. let w = c.self.invariant.0.within m in let l = length-map places.items slot_number in omega arith) n near last (let l = length-map places.items slot_number in omega arith))))
     in (
       subst (λ (xs : List Place). IsPlaceList 65536 xs (vec_capacity pushed) (set slots n last) c.put.new.self) (sym c.push_reserved-then-not-has.ensures.items)
-      (subst (λ m. IsPlaceList 65536 (places.items ++ place ∷ []) (vec_capacity pushed) (set slots m last) c.put.new.self) (sym is)
-      (put_place 65536 places.items (vec_capacity places) slots c.self.inside.switches c.self.invariant.0 place absent (subst (λ m. m < 65536) is c.slot_number-slot.ensures.within)
-      (vec_capacity pushed) room c.put.new.self c.put.ensures last is_last)),
+          (subst (λ m. IsPlaceList 65536 (places.items ++ place ∷ []) (vec_capacity pushed) (set slots m last) c.put.new.self) (sym is)
+          (put_place 65536 places.items (vec_capacity places) slots c.self.inside.switches c.self.invariant.0 place absent (subst (λ m. m < 65536) is c.slot_number-slot.ensures.within)
+          (vec_capacity pushed) room c.put.new.self c.put.ensures last is_last)),
       subst (λ (xs : List Place). IsChained (map slot_number xs) (set slots n last) c.push_reserved.new.self.items) (sym c.push_reserved-then-not-has.ensures.items)
-      (subst (λ (xs : List ℕ). IsChained (map slot_number (places.items ++ place ∷ [])) (set slots n last) xs) (sym c.push_reserved.ensures.items) chained),
+          (subst (λ (xs : List ℕ). IsChained (map slot_number (places.items ++ place ∷ [])) (set slots n last) xs) (sym c.push_reserved.ensures.items) chained),
       (let e = c.push_reserved.ensures.capacity in let r = c.self.invariant.2 in omega arith),
     )
 
