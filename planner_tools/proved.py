@@ -62,14 +62,14 @@ def say_why(*given: Given | str, good: Sequence[int] = (0,)) -> tuple[int, str]:
     return answer_for(REFUSALS, *given, good=good)
 
 
-def look(how: How, *given: str) -> tuple[int, bool]:
-    """Says what there is to warn of in the files of a run that is to come. Returns how many warnings were said, and
-    whether they end it: `how` is strict."""
-    run = Run(list(map(str, given)), how)
+def look(how: How, *given: Given | str, has_notes: bool = True) -> tuple[int, bool]:
+    """Says what there is to warn of in the files of a run that is to come, and what to note, unless `has_notes` isn't
+    set. Returns how many warnings were said, and whether they end it: `how` is strict."""
+    run = Run([one if isinstance(one, Given) else str(one) for one in given], how)
     run.resolve()
     run.program = program.path()
     is_ended = run.is_ended_by_warnings()
-    if not is_ended:
+    if has_notes and not is_ended:
         run.say_notes()
     return run.warned, is_ended
 
@@ -322,16 +322,20 @@ class Run:
             self.voice.note(one.what, one.more)
 
     def has_warnings(self) -> bool:
+        self.warn((Voice() if self.options.is_strict else self.voice).warn)
+        return self.warned > 0
+
+    def warn(self, warn: Callable[[str, Sequence[str]], None]) -> None:
+        """Says what there is to warn of in the files, by `warn`, and keeps how many warnings there are, and the
+        notes."""
         from planner_tools.cautions import Caution, cautions
         found = [Caution(what, more) for what, more in doubtful(self.folder, self.given[2:])] if self.folder else []
         found += self.safely(lambda: cautions(self)) or []
-        voice = Voice() if self.options.is_strict else self.voice
         warnings = [one for one in found if one.is_warning]
         self.notes = [one for one in found if not one.is_warning]
         for one in warnings:
-            voice.warn(one.what, one.more)
+            warn(one.what, one.more)
         self.warned = len(warnings)
-        return bool(warnings)
 
     def explain(self) -> None:
         if self.status == 0 and self.command.name != "explain":

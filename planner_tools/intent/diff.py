@@ -347,9 +347,9 @@ def parser_of() -> argparse.ArgumentParser:
     return parser
 
 
-def work(words: Sequence[str], _voice: Told) -> tuple[int, str]:
+def work(words: Sequence[str], voice: Told) -> tuple[int, str]:
     given = parser_of().parse_intermixed_args(words)
-    files = files_of("diff", given.files)
+    files = files_of("diff", given.files, voice)
     found, policy = difference(files), files.get("POLICY")
     if given.json:
         return 0, json.dumps(found.values(policy is not None), indent=1) + "\n"

@@ -27,7 +27,9 @@ import tempfile
 
 from planner_tools import network as nets
 from planner_tools.files import counted, did_you_mean
-from planner_tools.intent.asking import BAD_FILE, asked, beside, done, files_of, network_of, rules_of, text_of
+from planner_tools.intent.asking import (
+    BAD_FILE, asked, beside, done, files_of, network_of, rules_of, text_of, warn_of,
+)
 from planner_tools.intent.classes import Paths, shortened
 from planner_tools.intent.links import Load, use_words
 from planner_tools.intent.places import Places, link_words, links_of, switch_of
@@ -425,8 +427,10 @@ def parser_of() -> argparse.ArgumentParser:
 
 def work(words: Sequence[str], voice: Told) -> tuple[int, str]:
     given = parser_of().parse_intermixed_args(words)
-    files, folder = files_of("route", given.files), given.files[0]
+    files, folder = files_of("route", given.files, voice), given.files[0]
     before = beside(folder, given.before) if given.before is not None else None
+    if before is not None:
+        warn_of("CONFIG", before, voice)
     if before is None:
         accepted(files["TOPO"], config_text([]), "the empty configuration")
     else:
