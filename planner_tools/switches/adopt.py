@@ -32,10 +32,13 @@ import sys
 import tempfile
 import time
 
-from planner_tools.proved import say_why
+from planner_tools.files import like_folder
+from planner_tools.proved import Given, How, answer_for, say_why
 from planner_tools.switches import openflow
 from planner_tools.switches.collect import Reading, Tables
-from planner_tools.switches.connections import OWN, Stop, Switches, host_and_port, read_switches, say
+from planner_tools.switches.connections import (
+    OWN, Stop, Switches, fault_words, listening_address, read_switches, say,
+)
 from planner_tools.switches.entries import STANDALONE, TO_NORMAL
 from planner_tools.switches.expected import rule_action, rule_key
 
@@ -95,6 +98,10 @@ class Adopting:
         self.policy, self.new, self.old = (
             os.path.join(options.folder, f"{name}.json") for name in ("policy", "new", "old")
         )
+        if not os.path.isdir(options.folder):
+            raise Stop(
+                f"{options.folder} is no folder", f"name the one with topology.json{like_folder(options.folder)}"
+            )
         self.listed = read_switches(options.switches, self.topology)
         self.switches: Switches | None = None
         self.owed: set[str] = set()
@@ -248,7 +255,7 @@ class Adopting:
         with tempfile.NamedTemporaryFile("w", encoding="utf-8", prefix="planner-", suffix=".json") as file:
             json.dump({"rules": rules}, file)
             file.flush()
-            status, _ = say_why("config", self.topology, file.name, *policy)
+            status, _ = answer_for(How(), "config", self.topology, Given(file.name, self.old), *policy)
         if status != 0:
             say(
                 "stopped: no plan can start from these rules; nothing was written or sent. Next: --own CONFIG names"
@@ -376,7 +383,7 @@ def parser_of() -> argparse.ArgumentParser:
     parser.add_argument("folder", metavar="NET")
     parser.add_argument("--switches", metavar="FILE", required=True)
     parser.add_argument("--own", metavar="CONFIG")
-    parser.add_argument("--listen", metavar="HOST:PORT", type=host_and_port)
+    parser.add_argument("--listen", metavar="HOST:PORT", type=listening_address)
     parser.add_argument("--patience", metavar="SECONDS", type=float, default=15.0)
     parser.add_argument("--yes", action="store_true")
     parser.add_argument("--dry-run", action="store_true")
@@ -389,7 +396,7 @@ def main(words: Sequence[str]) -> int:
         adopting = Adopting(options)
         return adopting.run()
     except (Stop, OSError) as stop:
-        say(f"stopped: {stop}. Next: {getattr(stop, 'then', 'see to it, and begin again')}")
+        say(f"stopped: {fault_words(stop)}. Next: {getattr(stop, 'then', 'see to it, and begin again')}")
         return REFUSED
     finally:
         if adopting is not None and adopting.switches is not None:
