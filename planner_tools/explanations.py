@@ -88,7 +88,9 @@ class Explainer:
     # ---- yes
 
     def explain_done(self) -> None:
-        if self.run.command.name == "explain" and not self.voice.is_quiet:
+        if self.run.command.name == "trace":
+            self.explain_trace()
+        elif self.run.command.name == "explain" and not self.voice.is_quiet:
             from planner_tools.story import tell
             if self.first.startswith("no run"):
                 self.voice.note(
@@ -98,6 +100,12 @@ class Explainer:
                 )
             else:
                 self.voice.note("a run in which a packet breaks the policy, in words:", tell(self))
+
+    def explain_trace(self) -> None:
+        """Says of a packet that is dropped whether it would go back to where it came from."""
+        for line in trace_words(self.run.text, None)[-1:]:
+            if line.endswith(nets.BACK):
+                self.voice.note(line)
 
     # ---- no
 

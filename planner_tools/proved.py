@@ -338,7 +338,7 @@ class Run:
         self.warned = len(warnings)
 
     def explain(self) -> None:
-        if self.status == 0 and self.command.name != "explain":
+        if self.status == 0 and self.command.name not in ("explain", "trace"):
             return
         from planner_tools.explanations import Explainer
         Explainer(self).explain()

@@ -380,6 +380,13 @@ class Answers(Case):
                     said,
                 )
 
+    def test_trace_says_that_a_packet_is_sent_back(self):
+        for output, said in ((3, "planner: note: dropped by s2: its output is the port it came in by\n"), ("drop", "")):
+            self.edit("new.json", lambda value: value["rules"][1].update(out=output))
+            self.assertEqual(
+                (0, said), self.run_planner("trace", ".", "new.json", "s2:3", "untagged", "10.0.0.1")[::2]
+            )
+
     def test_explain_says_that_a_packet_is_sent_back(self):
         self.edit(
             "new.json",
