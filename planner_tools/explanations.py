@@ -21,7 +21,6 @@ if TYPE_CHECKING:
     from planner_tools.files import Json, Text
     from planner_tools.network import Network
     from planner_tools.proved import Run
-    from planner_tools.report import Asking
     from planner_tools.voice import Voice
 
 # Which word of a command a kind of file is, as the program names the kinds.
@@ -43,7 +42,7 @@ class Explainer:
     """Explains one run of the program: its command, its files by their words, its status and the beginning of its
     text."""
 
-    def __init__(self, run: Run | Asking) -> None:
+    def __init__(self, run: Run) -> None:
         self.run = run
         self.voice: Voice = run.voice
         self.first: str = run.text.split("\n", 1)[0]

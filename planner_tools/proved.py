@@ -15,6 +15,7 @@ if TYPE_CHECKING:
     from planner_tools.cautions import Caution
     from planner_tools.costs import Costs
     from planner_tools.main import Options
+    from planner_tools.report import Report as Listener
 
 # So much of the text is kept for what is said of it.
 KEPT = 4 << 20
@@ -194,6 +195,10 @@ def is_same(one: str, other: str) -> bool:
 class Run:
     """A run of a command of the program."""
 
+    # what hears of each run of the program and of its answer, and of a run whose status was no good one, where the
+    # answer is one for machines
+    listener: Listener | None = None
+
     def __init__(self, given: Sequence[Any], options: Options | How) -> None:
         """`given` are the words: the command, and names of files, or each as a `Given`."""
         self.given, self.options = given, options
@@ -216,7 +221,10 @@ class Run:
 
     def ask(self, *more: str) -> tuple[int, str]:
         """The status and the text of another run of the program."""
-        return program.run(*more, program=self.program)
+        status, text = program.run(*more, program=self.program)
+        if Run.listener is not None:
+            Run.listener.asked(self, more, status, text)
+        return status, text
 
     # ---- the words
 
@@ -304,6 +312,8 @@ class Run:
             self.voice.refuse("nothing is written, as there are warnings and --strict is given")
             return BAD_FILE
         work()
+        if self.status not in good and Run.listener is not None:
+            Run.listener.refused(self)
         if self.status not in good or self.status == 0:
             self.safely(self.explain)
             self.safely(self.tell_costs)
