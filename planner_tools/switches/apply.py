@@ -285,9 +285,9 @@ def typed(words: Sequence[str], then: str, dead: Collection[str] = ()) -> str:
     """The command that does what is next, as it can be typed, behind the words that say it. Of the switches that are
     dead the record says so: the command may be typed when they are there again."""
     found = MODES.search(then)
-    if not found:
+    if not found or "--recover with another record" in then:
         return ""
-    mode = found[0].split()
+    mode = [] if f"leave out {found[0]}" in then else found[0].split()
     others = [parted(word) for word in words if not word.startswith(MODE_WORDS)]
     said = {*mode, *dead}
     kept = [part for parts in others if parts[0] != "--without" or parts[1] not in said for part in parts]

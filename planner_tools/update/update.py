@@ -58,6 +58,12 @@ NEXT = {
         "in the tables of the switches (`old`) or in new.json (`new`) packets have no good path: `planner page"
         " {topology} {config} {policy}` shows it"
     ),
+    ("old", REFUSED): (
+        "in the tables of the switches (`old`) packets have no good path, so no plan can start from them: `planner page"
+        " {topology} {config} {policy}` shows it. Where entries are missing, or there are none, `planner adopt {folder}"
+        " --switches {switches} --own CONFIG` puts those of CONFIG in; where some are wrong docs/CONTROLLER.md says what"
+        " to do (a network as one finds it)"
+    ),
     ("plan", BAD_FILE): "correct that file; docs/FORMATS.md has every refusal",
     ("plan", 4): "no order of single changes was found, and two phases want more tags: widen `tags` in topology.json",
     ("plan", 5): (
@@ -247,7 +253,8 @@ class Update:
         self.see_that_it_is_heard()
         if status == 0:
             return text
-        then = NEXT.get((step, status), "docs/FORMATS.md has every refusal")
+        is_old = text.startswith("refused: 1 EndBreaks old ")
+        then = NEXT.get(("old" if is_old else step, status), "docs/FORMATS.md has every refusal")
         if text.startswith(("no ordered plan\n", "too ")):
             then = next(
                 (NEXT_OF_KIND[kind, status] for kind in self.options.kind if (kind, status) in NEXT_OF_KIND), then
@@ -255,7 +262,10 @@ class Update:
         config = self.path("old.json") if " old " in text else self.files["new"]
         raise Stopped(
             step, f"`planner {command}` says: {'; '.join(text.splitlines()) or f'nothing, with status {status}'}",
-            then.format(config=config, **self.files), status,
+            then.format(
+                config=config, folder=self.options.folder, switches=self.options.switches, **self.files
+            ),
+            status,
         )
 
     def plan(self) -> dict[str, Any]:
