@@ -61,8 +61,8 @@ NEXT = {
     ("old", REFUSED): (
         "in the tables of the switches (`old`) packets have no good path, so no plan can start from them: `planner page"
         " {topology} {config} {policy}` shows it. Where entries are missing, or there are none, `planner adopt {folder}"
-        " --switches {switches} --own CONFIG` puts those of CONFIG in; where some are wrong docs/CONTROLLER.md says what"
-        " to do (a network as one finds it)"
+        " --switches {switches} --own CONFIG` puts those of CONFIG in; where some are wrong docs/CONTROLLER.md says"
+        " what to do (a network as one finds it)"
     ),
     ("plan", BAD_FILE): "correct that file; docs/FORMATS.md has every refusal",
     ("plan", 4): "no order of single changes was found, and two phases want more tags: widen `tags` in topology.json",
