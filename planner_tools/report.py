@@ -68,15 +68,19 @@ def told(name: str, words: Sequence[str], answer: Callable[..., Any]) -> int:
     sys.stdout = io.StringIO()
     try:
         status = status_of(answer, words)
-        events.tell(
-            "end", command=name, status=status,
-            verdict=answers.VERDICTS.get(status, "ended") if status != REFUSED else "stopped",
-        )
+        events.tell("end", command=name, status=status, verdict=told_verdict(status, "--strict" in words))
         return status
     finally:
         sys.stdout, sys.stderr = output, error
         events.SINK = None
         Voice.listener = None
+
+
+def told_verdict(status: int, is_strict: bool) -> str:
+    """The verdict of a command that writes events. Where it is strict, warnings end it before a file is refused."""
+    if status == REFUSED:
+        return "stopped"
+    return answers.verdict_of("", status, is_warned=is_strict and "warning" in events.HEARD)
 
 
 class Held:
