@@ -96,6 +96,13 @@ class Adopting(unittest.TestCase):
         status, said = self.adopt(net, "--dry-run")
         self.assertEqual(0, status, said)
         self.assertIn("demands[0].thru counts for nothing: no member has this name; did you mean `through`?", said)
+        (net.wanted / "old.json").unlink()
+        status, said = self.adopt(net, "--strict")
+        self.assertEqual(3, status, said)
+        self.assertIn("stopped: there are warnings, and --strict is given; nothing was written or sent.", said)
+        self.assertFalse((net.wanted / "old.json").exists())
+        self.assertEqual((0, ""), self.adopt(net, "--quiet"))
+        self.is_untouched(net)
 
     def test_a_dry_run_and_a_run_that_nobody_answers_send_nothing(self):
         net = self.network()
