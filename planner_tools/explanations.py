@@ -11,7 +11,7 @@ import re
 
 from planner_tools import network as nets
 from planner_tools import program
-from planner_tools.files import NotJson, counted, did_you_mean, like, member_path, read_json, short
+from planner_tools.files import NotJson, counted, did_you_mean, like, member_path, nearest, read_json, short
 from planner_tools.words import CHOICES
 
 TYPE_CHECKING = False
@@ -580,6 +580,7 @@ class Explainer:
                     if found.folder
                     else []
                 )
+                more += self.kind_words(found.shown)
                 self.voice.refuse(
                     (
                         f"{found.shown}:"
@@ -591,6 +592,16 @@ class Explainer:
         self.voice.refuse(
             "a file couldn't be read to its end: " + ", ".join(one.shown for one in self.run.files.values())
         )
+
+    def kind_words(self, name: str) -> list[str]:
+        """What the last word of the command may be, where it isn't the name of a file and a missing file looks like
+        it."""
+        for word in self.run.command.words()[0]:
+            guess = nearest(name, CHOICES.get(word, ()))
+            if guess:
+                kinds = " or ".join(f"`{one}`" for one in CHOICES[word])
+                return [f"{word} is the one word more behind the files: {kinds}"]
+        return []
 
     def explain_unwritten(self) -> None:
         reason = self.run.fault.strerror if self.run.fault else "the program says no more"

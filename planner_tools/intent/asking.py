@@ -1,6 +1,7 @@
 """The files behind the words of a command of this package, and what the program says of them."""
 from __future__ import annotations
 
+import errno
 import os
 import re
 import sys
@@ -86,13 +87,16 @@ def json_of(file: Given) -> Json:
         raise Unable(f"{file.shown}: {fault.what}", BAD_FILE) from fault
 
 
-def text_of(file: Given) -> str:
-    """The text of a file of lines."""
+def text_of(file: Given, line: str) -> str:
+    """The text of a file of lines, where a line looks so."""
     try:
         with open(file.real, "rb") as source:
             return source.read().decode("utf-8-sig")
     except OSError as fault:
-        raise Unable(f"{file.shown}: {fault.strerror}", UNREAD) from fault
+        raise Unable(
+            f"{file.shown}: {fault.strerror}{like(file.real) if fault.errno == errno.ENOENT else ''}", UNREAD,
+            [f"right: lines as `{line}`"],
+        ) from fault
     except UnicodeDecodeError as fault:
         raise Unable(f"{file.shown}: it is no text in UTF-8", BAD_FILE) from fault
 

@@ -167,7 +167,7 @@ def main(words: Sequence[str]) -> int:
         print(fault, file=sys.stderr)
         return program.NO_PROGRAM
     except OSError as fault:
-        print(f"a file can't be read: {fault}", file=sys.stderr)
+        print(f"{fault.filename or 'a file'} can't be read: {fault.strerror or fault}", file=sys.stderr)
         return UNREAD
     sys.stdout.buffer.write(text.encode())
     return 0
