@@ -33,7 +33,10 @@ BEGINNINGS: dict[str, str] = {
     "too many classes: ": "too many classes",
 }
 # The commands that write a file of JSON where they say yes.
-WRITES_JSON = ("plan", "pack", "certify", "upgrade", "import", "tables")
+WRITES_JSON = (
+    "plan", "pack", "certify", "upgrade", "import", "tables", "policy", "route", "from-ofctl", "from-mininet",
+    "from-graphml",
+)
 NUMBERS = ("number", "place", "round", "change", "need", "capacity", "has", "count", "line")
 
 
@@ -96,6 +99,8 @@ def refused(first: str, text: str) -> dict[str, Any] | None:
         return {"name": "NoEntry", "entry": entry, "vlan": vlan_value(vlan)}
     if "two-phase" in first:
         return {"name": "TwoPhase"}
+    if first == "no ordered plan":
+        return {"name": "NoOrderedPlan"}
     found = NO_EVIDENCE.fullmatch(first)
     if found:
         return {"name": "NoEvidence", **found.groupdict()}

@@ -19,7 +19,6 @@ if TYPE_CHECKING:
     from planner_tools.files import Json, Value
     from planner_tools.network import Network
     from planner_tools.proved import Given, Run
-    from planner_tools.report import Asking
 
 # Files longer than this aren't looked at: a plan, and the others.
 LONGEST = {"PLAN": 4 << 20}
@@ -66,7 +65,7 @@ def grouped(found: Sequence[Caution]) -> list[Caution]:
     return list(first.values())
 
 
-def cautions(run: Run | Asking) -> list[Caution]:
+def cautions(run: Run) -> list[Caution]:
     """What there is to say about the files of a run."""
     found = []
     for word, file in run.files.items():

@@ -13,6 +13,8 @@ if TYPE_CHECKING:
 
 # Where the lines go, or None where nobody asked for them.
 SINK: TextIO | None = None
+# What kinds of things voices have said.
+HEARD: set[str] = set()
 
 
 def tell(event: str, **values: Any) -> None:
@@ -29,6 +31,7 @@ def tell(event: str, **values: Any) -> None:
 def heard(head: str, what: str, more: Sequence[str]) -> None:
     """Writes what a voice says."""
     kind = next((one for one in ("warning", "note") if f" {one}:" in head), "refusal")
+    HEARD.add(kind)
     tell(kind, what=what, more=list(more))
 
 

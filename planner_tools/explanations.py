@@ -11,7 +11,7 @@ import re
 
 from planner_tools import network as nets
 from planner_tools import program
-from planner_tools.files import NotJson, counted, did_you_mean, like, member_path, read_json, short
+from planner_tools.files import NotJson, counted, did_you_mean, like, member_path, nearest, read_json, short
 from planner_tools.words import CHOICES
 
 TYPE_CHECKING = False
@@ -21,7 +21,6 @@ if TYPE_CHECKING:
     from planner_tools.files import Json, Text
     from planner_tools.network import Network
     from planner_tools.proved import Run
-    from planner_tools.report import Asking
     from planner_tools.voice import Voice
 
 # Which word of a command a kind of file is, as the program names the kinds.
@@ -43,7 +42,7 @@ class Explainer:
     """Explains one run of the program: its command, its files by their words, its status and the beginning of its
     text."""
 
-    def __init__(self, run: Run | Asking) -> None:
+    def __init__(self, run: Run) -> None:
         self.run = run
         self.voice: Voice = run.voice
         self.first: str = run.text.split("\n", 1)[0]
@@ -88,7 +87,9 @@ class Explainer:
     # ---- yes
 
     def explain_done(self) -> None:
-        if self.run.command.name == "explain" and not self.voice.is_quiet:
+        if self.run.command.name == "trace":
+            self.explain_trace()
+        elif self.run.command.name == "explain" and not self.voice.is_quiet:
             from planner_tools.story import tell
             if self.first.startswith("no run"):
                 self.voice.note(
@@ -98,6 +99,12 @@ class Explainer:
                 )
             else:
                 self.voice.note("a run in which a packet breaks the policy, in words:", tell(self))
+
+    def explain_trace(self) -> None:
+        """Says of a packet that is dropped whether it would go back to where it came from."""
+        for line in trace_words(self.run.text, None)[-1:]:
+            if line.endswith(nets.BACK):
+                self.voice.note(line)
 
     # ---- no
 
@@ -573,6 +580,7 @@ class Explainer:
                     if found.folder
                     else []
                 )
+                more += self.kind_words(found.shown)
                 self.voice.refuse(
                     (
                         f"{found.shown}:"
@@ -584,6 +592,16 @@ class Explainer:
         self.voice.refuse(
             "a file couldn't be read to its end: " + ", ".join(one.shown for one in self.run.files.values())
         )
+
+    def kind_words(self, name: str) -> list[str]:
+        """What the last word of the command may be, where it isn't the name of a file and a missing file looks like
+        it."""
+        for word in self.run.command.words()[0]:
+            guess = nearest(name, CHOICES.get(word, ()))
+            if guess:
+                kinds = " or ".join(f"`{one}`" for one in CHOICES[word])
+                return [f"{word} is the one word more behind the files: {kinds}"]
+        return []
 
     def explain_unwritten(self) -> None:
         reason = self.run.fault.strerror if self.run.fault else "the program says no more"

@@ -479,3 +479,8 @@ def like(path: str, is_fixed: bool = False) -> str:
         return ""
     guess = nearest(name, names)
     return f"; did you mean {os.path.join(folder, guess)}?" if guess else ""
+
+
+def like_folder(path: str) -> str:
+    """The same words beside what has to be a folder; none where a file is in its place."""
+    return "" if os.path.exists(path) else like(path)

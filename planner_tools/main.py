@@ -30,7 +30,7 @@ MODULES = {
     "show": "planner_tools.show",
 }
 # Those of them that are quiet or strict themselves.
-WITH_FLAGS = ("apply", "policy", "route", "update")
+WITH_FLAGS = ("apply", "diff", "links", "page", "policy", "route", "update")
 # Those of them whose answer `-o FILE` takes.
 WITH_OUTPUT = (
     "collect", "diff", "from-graphml", "from-mininet", "from-ofctl", "links", "page", "policy", "route", "show",
@@ -132,7 +132,7 @@ def unwritten(fault: OSError) -> int:
 def spelled_out(words: Sequence[str]) -> list[str]:
     """The words, where `help`, -h and -V stand for what they mean elsewhere."""
     if words[:1] == ["help"]:
-        return [*words[1:2], "--help"]
+        return [*(word for word in words[1:2] if not word.startswith("-")), "--help"]
     if words[:1] in (["-h"], ["-V"]):
         return ["--help" if words[0] == "-h" else "--version", *words[1:]]
     return ["--help" if word == "-h" and words[0] not in MODULES else word for word in words]

@@ -15,6 +15,7 @@ if TYPE_CHECKING:
     from planner_tools.cautions import Caution
     from planner_tools.costs import Costs
     from planner_tools.main import Options
+    from planner_tools.report import Report as Listener
 
 # So much of the text is kept for what is said of it.
 KEPT = 4 << 20
@@ -62,14 +63,14 @@ def say_why(*given: Given | str, good: Sequence[int] = (0,)) -> tuple[int, str]:
     return answer_for(REFUSALS, *given, good=good)
 
 
-def look(how: How, *given: str) -> tuple[int, bool]:
-    """Says what there is to warn of in the files of a run that is to come. Returns how many warnings were said, and
-    whether they end it: `how` is strict."""
-    run = Run(list(map(str, given)), how)
+def look(how: How, *given: Given | str, has_notes: bool = True) -> tuple[int, bool]:
+    """Says what there is to warn of in the files of a run that is to come, and what to note, unless `has_notes` isn't
+    set. Returns how many warnings were said, and whether they end it: `how` is strict."""
+    run = Run([one if isinstance(one, Given) else str(one) for one in given], how)
     run.resolve()
     run.program = program.path()
     is_ended = run.is_ended_by_warnings()
-    if not is_ended:
+    if has_notes and not is_ended:
         run.say_notes()
     return run.warned, is_ended
 
@@ -194,6 +195,10 @@ def is_same(one: str, other: str) -> bool:
 class Run:
     """A run of a command of the program."""
 
+    # what hears of each run of the program and of its answer, and of a run whose status was no good one, where the
+    # answer is one for machines
+    listener: Listener | None = None
+
     def __init__(self, given: Sequence[Any], options: Options | How) -> None:
         """`given` are the words: the command, and names of files, or each as a `Given`."""
         self.given, self.options = given, options
@@ -216,7 +221,10 @@ class Run:
 
     def ask(self, *more: str) -> tuple[int, str]:
         """The status and the text of another run of the program."""
-        return program.run(*more, program=self.program)
+        status, text = program.run(*more, program=self.program)
+        if Run.listener is not None:
+            Run.listener.asked(self, more, status, text)
+        return status, text
 
     # ---- the words
 
@@ -304,6 +312,8 @@ class Run:
             self.voice.refuse("nothing is written, as there are warnings and --strict is given")
             return BAD_FILE
         work()
+        if self.status not in good and Run.listener is not None:
+            Run.listener.refused(self)
         if self.status not in good or self.status == 0:
             self.safely(self.explain)
             self.safely(self.tell_costs)
@@ -322,19 +332,23 @@ class Run:
             self.voice.note(one.what, one.more)
 
     def has_warnings(self) -> bool:
+        self.warn((Voice() if self.options.is_strict else self.voice).warn)
+        return self.warned > 0
+
+    def warn(self, warn: Callable[[str, Sequence[str]], None]) -> None:
+        """Says what there is to warn of in the files, by `warn`, and keeps how many warnings there are, and the
+        notes."""
         from planner_tools.cautions import Caution, cautions
         found = [Caution(what, more) for what, more in doubtful(self.folder, self.given[2:])] if self.folder else []
         found += self.safely(lambda: cautions(self)) or []
-        voice = Voice() if self.options.is_strict else self.voice
         warnings = [one for one in found if one.is_warning]
         self.notes = [one for one in found if not one.is_warning]
         for one in warnings:
-            voice.warn(one.what, one.more)
+            warn(one.what, one.more)
         self.warned = len(warnings)
-        return bool(warnings)
 
     def explain(self) -> None:
-        if self.status == 0 and self.command.name != "explain":
+        if self.status == 0 and self.command.name not in ("explain", "trace"):
             return
         from planner_tools.explanations import Explainer
         Explainer(self).explain()

@@ -68,10 +68,7 @@ def told(name: str, words: Sequence[str], answer: Callable[..., Any]) -> int:
     sys.stdout = io.StringIO()
     try:
         status = status_of(answer, words)
-        events.tell(
-            "end", command=name, status=status,
-            verdict=answers.VERDICTS.get(status, "ended") if status != REFUSED else "stopped",
-        )
+        events.tell("end", command=name, status=status, verdict=told_verdict(status, "--strict" in words))
         return status
     finally:
         sys.stdout, sys.stderr = output, error
@@ -79,19 +76,11 @@ def told(name: str, words: Sequence[str], answer: Callable[..., Any]) -> int:
         Voice.listener = None
 
 
-class Asking(Run):
-    """A run of a proved command that keeps the ways of packets for which the program was asked meanwhile."""
-
-    def __init__(self, given: Sequence[str], options: Options) -> None:
-        super().__init__(given, options)
-        self.ways: list[tuple[str, Sequence[Any], str]] = []
-
-    def ask(self, *more: str) -> tuple[int, str]:
-        status, text = super().ask(*more)
-        if more[0] == "trace" and status == 0:
-            file = next((one.shown for one in self.files.values() if one.real == more[2]), more[2])
-            self.ways.append((file, more[3:6], text))
-        return status, text
+def told_verdict(status: int, is_strict: bool) -> str:
+    """The verdict of a command that writes events. Where it is strict, warnings end it before a file is refused."""
+    if status == REFUSED:
+        return "stopped"
+    return answers.verdict_of("", status, is_warned=is_strict and "warning" in events.HEARD)
 
 
 class Held:
@@ -131,14 +120,18 @@ class Report:
 
     def __init__(self, name: str) -> None:
         self.name, self.text = name, ""
-        self.asking: Asking | None = None
+        # the run of a proved command, and of another one the run that the program refused
+        self.asking: Run | None = None
+        self.refusing: Run | None = None
+        # the ways of packets for which the program was asked: the file, the words behind it, and the text
+        self.ways: list[tuple[str, Sequence[Any], str]] = []
         self.lines: list[str] = []
         self.said: dict[str, list[dict[str, Any]]] = {"refusal": [], "warning": [], "note": []}
         self.places: list[tuple[str, Text, int]] = []
 
     def run(self, words: Sequence[str], answer: Callable[..., Any]) -> int:
         """Runs the command, and keeps all that it writes and says."""
-        Voice.listener, Text.told = self.hear, self.places
+        Voice.listener, Text.told, Run.listener = self.hear, self.places, self
         held = Held()
         try:
             with held:
@@ -147,12 +140,22 @@ class Report:
             sys.stderr.write(held.texts.get(2, ""))
             raise
         finally:
-            Voice.listener = Text.told = None
+            Voice.listener = Text.told = Run.listener = None
             self.text, self.lines = held.texts.get(1, ""), held.texts.get(2, "").splitlines()
 
-    def begin(self, given: Sequence[str], options: Options) -> Asking:
-        self.asking = Asking(given, options)
+    def begin(self, given: Sequence[str], options: Options) -> Run:
+        self.asking = Run(given, options)
         return self.asking
+
+    def asked(self, run: Run, words: Sequence[str], status: int, text: str) -> None:
+        """Keeps the way of a packet for which the program was asked."""
+        if words[0] == "trace" and status == 0:
+            file = next((one.shown for one in run.files.values() if one.real == words[2]), words[2])
+            self.ways.append((file, words[3:6], text))
+
+    def refused(self, run: Run) -> None:
+        """Keeps a run that wasn't answered as it was to be."""
+        self.refusing = run
 
     def hear(self, head: str, what: str, more: Sequence[str]) -> None:
         """Takes what a voice says, with the places in files that it names."""
@@ -177,7 +180,7 @@ class Report:
 
     def values(self, status: int, output: str | None) -> dict[str, Any]:
         """The object."""
-        reason, named = answers.reason_of(status, self.text) if self.asking else (None, None)
+        reason, named = self.reason(status)
         verdict = (
             answers.verdict_of(self.name, status, self.text, self.said["warning"])
             if self.asking
@@ -200,9 +203,22 @@ class Report:
             **own,
         }
 
+    def reason(self, status: int) -> tuple[dict[str, Any] | None, dict[str, Any] | None]:
+        """The reason why the answer isn't yes, and the class of packets that it names. Of a command outside the proved
+        program that is the reason of the program, where the command ended with its status."""
+        if self.asking:
+            return answers.reason_of(status, self.text)
+        run = self.refusing
+        return answers.reason_of(status, run.text) if run is not None and run.status == status else (None, None)
+
     def own_verdict(self, status: int) -> str:
         """The verdict of a command outside the proved program."""
-        return ANSWERS_NO.get(self.name, "stopped") if status == REFUSED else answers.verdict_of("", status)
+        run = self.refusing
+        if run is not None and run.status == status:
+            return answers.verdict_of(run.command.name, status, run.text)
+        if status == REFUSED:
+            return ANSWERS_NO.get(self.name, "stopped")
+        return answers.verdict_of("", status, is_warned=run is None and bool(self.said["warning"]))
 
     def own_value(self, status: int) -> dict[str, Any] | list[dict[str, Any]] | None:
         """What the command itself writes as JSON: an object, whose members stand beside the others, or a list, which is
@@ -214,7 +230,7 @@ class Report:
 
     def paths(self, status: int) -> list[dict[str, Any]]:
         """The ways of packets that were looked at."""
-        ways = list(self.asking.ways) if self.asking else []
+        ways = list(self.ways)
         if self.name == "trace" and status == 0 and self.asking:
             ways.append((self.asking.files["CONFIG"].shown, self.asking.passed[3:6], self.text))
         found = []

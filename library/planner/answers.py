@@ -13,6 +13,11 @@ from planner.programs import File, Files, front_end, path
 
 # The exit statuses of an answer about the files. With all others nothing was found out about them.
 ANSWERS = (0, 1, 3, 4, 5, 8)
+# The members of each answer. Those that `diff`, `links` and `show` write beside them are their answer.
+MEMBERS = (
+    "format", "command", "status", "verdict", "reason", "class", "paths", "places", "warnings", "refusals", "notes",
+    "said", "output", "answer",
+)
 
 
 @dataclasses.dataclass(frozen=True)
@@ -150,8 +155,9 @@ def reason_of(one: Mapping[str, Any] | None) -> Reason | None:
 
 def answer_of(one: Mapping[str, Any]) -> Answer:
     """The answer of which an object is."""
+    own = {name: it for name, it in one.items() if name not in MEMBERS}
     return Answer(
-        one["command"], one["status"], one["verdict"], one["answer"], reason_of(one["reason"]),
+        one["command"], one["status"], one["verdict"], own or one["answer"], reason_of(one["reason"]),
         packet_of(one["class"]) if one["class"] else None, tuple(map(path_of, one["paths"])),
         tuple(map(place_of, one["places"])), tuple(map(said_of, one["refusals"])), tuple(map(said_of, one["warnings"])),
         tuple(map(said_of, one["notes"])),

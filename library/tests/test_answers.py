@@ -87,6 +87,19 @@ class Answers(unittest.TestCase):
         answer = planner.configuration(topology, SQUARE / "replies-s1")
         self.assertEqual(["s1"], sorted({one["switch"] for one in answer.answer["rules"]}))
 
+    def test_what_other_commands_write_as_json_is_their_answer(self):
+        topology, old, new, policy = dicts(SQUARE)
+        files = {"topology.json": topology, "old.json": old, "new.json": new}
+        answer = planner.ask("diff", files)
+        self.assertEqual((True, "done", 3), (bool(answer), answer.verdict, answer.answer["counts"]["way"]))
+        answer = planner.ask("policy", files)
+        self.assertEqual(3, len(answer.answer["demands"]))
+        answer = planner.ask("links", {"topology.json": topology, "new.json": new}, "--empty", "s2-s3")
+        self.assertEqual((False, "used"), (bool(answer), answer.verdict))
+        self.assertFalse(answer.answer[0]["empty"])
+        answer = planner.ask("pack", {**files, "policy.json": policy}, "two-phase")
+        self.assertEqual("two-phase", answer.plan["kind"])
+
     def test_no_answer_is_an_exception(self):
         with self.assertRaises(planner.Failed) as failed:
             planner.check(*paths(SQUARE), SQUARE / "none.json")

@@ -19,7 +19,7 @@ from planner_tools.words import IN_FOLDER
 
 TYPE_CHECKING = False
 if TYPE_CHECKING:
-    from typing import Any, Sequence
+    from typing import Any, Callable, Sequence
 
 # The command for each change. `ovs-ofctl` waits for the barrier reply of the switch before it ends, and its status
 # tells of an error.
@@ -63,25 +63,29 @@ def command_of(do: str, rule: dict[str, Any], targets: dict[str, str]) -> str:
     )
 
 
-def refused(path: str) -> str | None:
+def refused(path: str, is_quiet: bool = False, is_strict: bool = False) -> str | None:
     """Why `planner check` refuses a plan, in its words, or None; the files of the update are looked for beside the
-    plan, and in the folder above an update's."""
+    plan, and in the folder above an update's. It is said unless it is to be quiet; where it is strict, that is the
+    end."""
     folder = os.path.dirname(path) or "."
     beside_it = [beside(folder, IN_FOLDER[word]) for word in ("TOPO", "OLD", "NEW", "POLICY")]
     files = [one for one in beside_it if one is not None]
     note = f"{path}: note: whether it is certified wasn't looked at: `planner check TOPO OLD NEW POLICY {path}` says it"
+    tell: Callable[[str], None] = (lambda _: None) if is_quiet else say
     if len(files) < len(beside_it):
-        say(note)
+        tell(note)
         return None
     try:
         status, text = program.run("check", *files, path)
     except program.CannotRun:
-        say(note)
+        tell(note)
         return None
     if status == 0:
         return None
     said = "; ".join(text.splitlines())
-    say(
+    if is_strict:
+        raise NotConverted(f"{path}: `planner check` refuses it: {said}", "leave out --strict to have the scripts")
+    tell(
         f"{path}: warning: `planner check` refuses it: {said}. The scripts are written all the same; what holds of a"
         " plan that it accepts isn't said of them"
     )
@@ -162,12 +166,14 @@ def convert(words: Sequence[str]) -> str:
             " bridge of its name on this machine"
         ),
     )
+    parser.add_argument("--strict", action="store_true", help="writes nothing where `planner check` refuses the plan")
+    parser.add_argument("--quiet", action="store_true", help="says nothing but refusals")
     options = parser.parse_args(words)
     rounds, targets = rounds_of(options.plan), read_targets(options.switches) if options.switches else {}
     wide = max(2, len(str(len(rounds))))
     try:
         [script_of(number, rounds, options.plan, targets) for number in range(1, len(rounds) + 1)]
-        why = refused(options.plan)
+        why = refused(options.plan, options.quiet, options.strict)
         scripts = [
             (f"round-{number:0{wide}}.sh", script_of(number, rounds, options.plan, targets, why))
             for number in range(1, len(rounds) + 1)

@@ -1,14 +1,14 @@
 """The files behind the words of a command of this package, and what the program says of them."""
 from __future__ import annotations
 
+import errno
 import os
 import re
 import sys
 
 from planner_tools import network as nets
-from planner_tools import program
-from planner_tools.files import NotJson, read_json
-from planner_tools.proved import REFUSALS, Given, Run, Unable, inside
+from planner_tools.files import NotJson, like, read_json
+from planner_tools.proved import REFUSALS, Given, Run, Unable, inside, say_why
 from planner_tools.voice import Voice
 from planner_tools.words import BY_NAME, Command
 
@@ -23,22 +23,35 @@ if TYPE_CHECKING:
 WRONG_WORDS, BAD_FILE, UNREAD = 2, 3, 6
 
 
-def files_of(name: str, typed: Sequence[str]) -> dict[str, Given]:
+def files_of(name: str, typed: Sequence[str], voice: Told) -> dict[str, Given]:
     """The files that the words of a command name, by their words in its usage: a folder stands for the names that are
-    left out, `-` for the standard input."""
+    left out, `-` for the standard input. What there is to warn of in them is said."""
     usage = re.split(r" \[?--", BY_NAME[name].usage)[0]
     run = Run([name, *typed], REFUSALS)
     run.command = Command(name, usage, "", "")
     wanted, least = run.command.words()
     run.resolve()
     if len(run.files) < least or len(typed) > len(wanted):
+        if len(typed) < least and not os.path.exists(typed[0]) and typed[0] != "-":
+            raise Unable(
+                f"{typed[0]}: No such file or directory{like(typed[0])}", WRONG_WORDS,
+                ["a folder stands for the files that are left out", f"planner {name} {BY_NAME[name].usage}"],
+            )
         raise Unable(
             f"{name}: the words are {usage}, and there are {'more' if len(typed) > len(wanted) else 'fewer'}",
             WRONG_WORDS, [f"planner {name} {BY_NAME[name].usage}"],
         )
     for file in run.files.values():
         file.kept = run.spooled          # what came from the standard input is there as long as this
+    run.warn(voice.warn)
     return run.files
+
+
+def warn_of(word: str, file: Given, voice: Told) -> None:
+    """Says what there is to warn of in a file that an option names, which is one of a word of the usages."""
+    run = Run([], REFUSALS)
+    run.files = {word: file}
+    run.warn(voice.warn)
 
 
 def beside(folder: str, name: str) -> Given:
@@ -51,15 +64,10 @@ def beside(folder: str, name: str) -> Given:
 def asked(command: str, good: Sequence[int] = (0,), **files: Given | None) -> str:
     """What the program writes for a command over files, which are given by the words of its usage. Where its status is
     no good one it is said why, and it is Unable."""
-    run = Run([command], REFUSALS)
-    run.files = {word: file for word, file in files.items() if file is not None}
-    run.passed = [command, *(file.real for file in run.files.values())]
-    run.program = program.path()
-    run.status, run.text = run.ask(*run.passed)
-    if run.status not in good:
-        run.safely(run.explain)
-        raise Unable(None, run.status if run.status >= 0 else 128 - run.status)
-    return run.text
+    status, text = say_why(command, *(file for file in files.values() if file is not None), good=good)
+    if status not in good:
+        raise Unable(None, status if status >= 0 else 128 - status)
+    return text
 
 
 def network_of(file: Given) -> Network:
@@ -79,13 +87,16 @@ def json_of(file: Given) -> Json:
         raise Unable(f"{file.shown}: {fault.what}", BAD_FILE) from fault
 
 
-def text_of(file: Given) -> str:
-    """The text of a file of lines."""
+def text_of(file: Given, line: str) -> str:
+    """The text of a file of lines, where a line looks so."""
     try:
         with open(file.real, "rb") as source:
             return source.read().decode("utf-8-sig")
     except OSError as fault:
-        raise Unable(f"{file.shown}: {fault.strerror}", UNREAD) from fault
+        raise Unable(
+            f"{file.shown}: {fault.strerror}{like(file.real) if fault.errno == errno.ENOENT else ''}", UNREAD,
+            [f"right: lines as `{line}`"],
+        ) from fault
     except UnicodeDecodeError as fault:
         raise Unable(f"{file.shown}: it is no text in UTF-8", BAD_FILE) from fault
 

@@ -73,6 +73,8 @@ class Change:
         )
         self.kind = kind_of(old, new)
         self.rules: list[Any] = []
+        # whether the old and the new path end where a rule sends all of these packets back to where they came from
+        self.backs = (False, False)
 
 
 class Difference:
@@ -116,6 +118,10 @@ class Difference:
                     len(hosts) * len(vlans) * len(atoms),
                 )
                 change.rules = self.rules_at_turns(hosts, vlans, atoms, old, new)
+                change.backs = (
+                    self.are_sent_back(self.tables[0], old, hosts, vlans, atoms),
+                    self.are_sent_back(self.tables[1], new, hosts, vlans, atoms),
+                )
                 changes.append(change)
         return changes
 
@@ -134,6 +140,23 @@ class Difference:
                         pair = [tables.rule(switch, in_port, vlan, self.both.firsts[atom]) for tables in self.tables]
                         found.setdefault((switch, *map(id, pair)), (switch, *pair))
         return list(found.values())
+
+    def are_sent_back(
+        self, tables: Tables, way: Way, hosts: Sequence[str], vlans: Sequence[str], atoms: Sequence[int]
+    ) -> bool:
+        """Whether a path is dropped, and at its last stop the rule of each class sends to the port that its packets
+        came in by."""
+        if way.end != "dropped":
+            return False
+        last = way.places()[-1]
+        for host in hosts if len(way.places()) == 1 else [last]:
+            switch, port = last.rpartition(":")[0], int(host.rpartition(":")[2])
+            for vlan in vlans:
+                for atom in atoms:
+                    rule = tables.rule(switch, port, vlan, self.both.firsts[atom])
+                    if rule is None or rule["out"] != port:
+                        return False
+        return True
 
     def breaking(self) -> list[int]:
         """How many classes break the policy under the old and under the new configuration."""
@@ -157,7 +180,7 @@ class Difference:
         values = {
             "kind": one.kind, "classes": one.count, "from": one.hosts,
             "vlans": [vlan_value(vlan) for vlan in one.vlans], "prefixes": prefixes(one.ranges),
-            "old": way_values(one.old), "new": way_values(one.new),
+            "old": way_values(one.old, one.backs[0]), "new": way_values(one.new, one.backs[1]),
         }
         if has_policy:
             values["breaks"] = dict(zip(("old", "new"), one.breaks))
@@ -190,7 +213,7 @@ class Difference:
         found: dict[tuple[Any, ...], Any] = {}
         for one in self.changes:
             at = parting(one.old, one.new)
-            key = (one.kind, one.breaks, *(tail_of(way, at) for way in (one.old, one.new)))
+            key = (one.kind, one.breaks, one.backs, *(tail_of(way, at) for way in (one.old, one.new)))
             found.setdefault(key, Paragraph(one, at)).take(one, at)
         return list(found.values())
 
@@ -229,6 +252,7 @@ class Paragraph:
 
     def __init__(self, one: Change, at: int) -> None:
         self.kind, self.breaks, self.old, self.new, self.at = one.kind, one.breaks, one.old, one.new, at
+        self.backs = one.backs
         self.fronts: set[tuple[str, ...]] = set()
         self.by_entry: dict[tuple[str, str], list[tuple[int, int]]] = {}
         self.rules: dict[tuple[Any, ...], Any] = {}
@@ -253,8 +277,8 @@ class Paragraph:
             count = sum(self.counts[host, vlan] for host in hosts for vlan in mine)
             lines.append(f"  {who}: {shortened(range_words(found), TOLD)} ({counted(count, 'class', 'classes')})")
         front, at = ("", 0) if len(self.fronts) == 1 else (".. ", self.at)
-        for word, way, mark in (("was", self.old, self.breaks[0]), ("now", self.new, self.breaks[1])):
-            lines.append(f"    {word} {front}{way_words(way, at)}{break_words(mark, has_policy)}")
+        for word, way, is_back, mark in zip(("was", "now"), (self.old, self.new), self.backs, self.breaks):
+            lines.append(f"    {word} {front}{way_words(way, at, is_back)}{break_words(mark, has_policy)}")
         rules = list(self.rules.values())
         lines += [f"    {rule_words(switch, old, new, network)}" for switch, old, new in rules[:TOLD]]
         return lines + (
@@ -262,14 +286,15 @@ class Paragraph:
         )
 
 
-def way_values(way: Way) -> dict[str, Any]:
-    return {"stops": way.places(), "end": way.end, "at": way.at}
+def way_values(way: Way, is_back: bool) -> dict[str, Any]:
+    return {"stops": way.places(), "end": way.end, "at": way.at, **({"back": is_back} if way.end == "dropped" else {})}
 
 
-def way_words(way: Way, at: int) -> str:
+def way_words(way: Way, at: int, is_back: bool) -> str:
     """A path in words, from one of its stops on: the switches, and how it ends."""
     end = {"left": "leaves at {at}", "dropped": "dropped at {at}", "again": "comes to {at} again"}[way.end]
-    return f"{' '.join(way.switches()[at:])}, {end.format(at=way.at)}"
+    back = f" ({nets.BACK})" if is_back else ""
+    return f"{' '.join(way.switches()[at:])}, {end.format(at=way.at)}{back}"
 
 
 def broken(mark: str) -> str | None:
@@ -347,9 +372,9 @@ def parser_of() -> argparse.ArgumentParser:
     return parser
 
 
-def work(words: Sequence[str], _voice: Told) -> tuple[int, str]:
+def work(words: Sequence[str], voice: Told) -> tuple[int, str]:
     given = parser_of().parse_intermixed_args(words)
-    files = files_of("diff", given.files)
+    files = files_of("diff", given.files, voice)
     found, policy = difference(files), files.get("POLICY")
     if given.json:
         return 0, json.dumps(found.values(policy is not None), indent=1) + "\n"

@@ -151,9 +151,9 @@ def parser_of() -> argparse.ArgumentParser:
     return parser
 
 
-def work(words: Sequence[str], _voice: Told) -> tuple[int, str]:
+def work(words: Sequence[str], voice: Told) -> tuple[int, str]:
     given = parser_of().parse_intermixed_args(words)
-    files = files_of("links", given.files)
+    files = files_of("links", given.files, voice)
     load = Load(Paths(asked("paths", (0, 1), TOPO=files["TOPO"], CONFIG=files["CONFIG"])), network_of(files["TOPO"]))
     looked, lines = look_at(load, given.empty) if given.empty else ([], load.lines())
     values = looked if given.empty else load.values()

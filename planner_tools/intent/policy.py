@@ -336,7 +336,7 @@ def parser_of() -> argparse.ArgumentParser:
 
 def work(words: Sequence[str], voice: Told) -> tuple[int, str]:
     given = parser_of().parse_intermixed_args(words)
-    files = files_of("policy", given.files)
+    files = files_of("policy", given.files, voice)
     both = Beside(*(good_paths(files["TOPO"], files[word]) for word in ("OLD", "NEW")))
     through = named_switches(given.through, network_of(files["TOPO"]))
     wanted = Wanted(both, through, given.changed)

@@ -27,7 +27,9 @@ import tempfile
 
 from planner_tools import network as nets
 from planner_tools.files import counted, did_you_mean
-from planner_tools.intent.asking import BAD_FILE, asked, beside, done, files_of, network_of, rules_of, text_of
+from planner_tools.intent.asking import (
+    BAD_FILE, asked, beside, done, files_of, network_of, rules_of, text_of, warn_of,
+)
 from planner_tools.intent.classes import Paths, shortened
 from planner_tools.intent.links import Load, use_words
 from planner_tools.intent.places import Places, link_words, links_of, switch_of
@@ -53,9 +55,9 @@ NONE: dict[bool, list[int]] = {True: [], False: []}
 
 # ---- files of lines
 
-def lines_of(file: Given) -> Iterator[tuple[str, list[str]]]:
-    """The lines of a file that are no comments: where each stands, and its words."""
-    for number, line in enumerate(text_of(file).splitlines(), 1):
+def lines_of(file: Given, form: str) -> Iterator[tuple[str, list[str]]]:
+    """The lines of a file that are no comments: where each stands, and its words. `form` is such a line."""
+    for number, line in enumerate(text_of(file, form).splitlines(), 1):
         words = line.split()
         if words and not words[0].startswith("#"):
             yield f"{file.shown}, line {number}", words
@@ -64,7 +66,7 @@ def lines_of(file: Given) -> Iterator[tuple[str, list[str]]]:
 def prefixes_of(file: Given, network: Network) -> dict[str, list[str]]:
     """Where each prefix leaves: its host ports by the prefix, in the order of the file."""
     found = {}
-    for where, (dst, *hosts) in lines_of(file):
+    for where, (dst, *hosts) in lines_of(file, "10.0.0.0/24 s4:3"):
         if nets.prefix(dst) is None:
             raise Unable(
                 f"{where}: {dst} is no prefix{right_prefix(dst)}", BAD_FILE,
@@ -102,7 +104,7 @@ def weights_of(file: Given, network: Network, voice: Told) -> dict[tuple[str, st
     """The weight of each link, in thousandths. A link that the file doesn't name has the greatest weight of the
     file."""
     links, found = {end: link for link in links_of(network) for end in link}, {}
-    for where, words in lines_of(file):
+    for where, words in lines_of(file, "s1:2 s2:1 40.5"):
         if (
             len(words) != 3
             or links.get(words[0]) != links.get(words[1])
@@ -425,8 +427,10 @@ def parser_of() -> argparse.ArgumentParser:
 
 def work(words: Sequence[str], voice: Told) -> tuple[int, str]:
     given = parser_of().parse_intermixed_args(words)
-    files, folder = files_of("route", given.files), given.files[0]
+    files, folder = files_of("route", given.files, voice), given.files[0]
     before = beside(folder, given.before) if given.before is not None else None
+    if before is not None:
+        warn_of("CONFIG", before, voice)
     if before is None:
         accepted(files["TOPO"], config_text([]), "the empty configuration")
     else:

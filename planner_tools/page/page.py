@@ -18,7 +18,7 @@ from planner_tools import program
 from planner_tools.page.layout import layout
 from planner_tools.page.values import Files
 from planner_tools.page.verdict import NoVerdict, driven, traces, verdict, verdict_of_configuration
-from planner_tools.proved import Names, say_why
+from planner_tools.proved import BAD_FILE, UNREAD, How, Names, Unable, look, say_why
 
 TYPE_CHECKING = False
 if TYPE_CHECKING:
@@ -67,6 +67,8 @@ def asked_by(words: Sequence[str]) -> argparse.Namespace:
         "--layout", choices=("graphviz", "own"), default="graphviz",
         help="own: Graphviz isn't used, even where it is there",
     )
+    parser.add_argument("--strict", action="store_true", help="warnings end it, and nothing is written")
+    parser.add_argument("--quiet", action="store_true", help="nothing is said but refusals")
     asked = parser.parse_args(words)
     if len(asked.files) != UPDATE and len(asked.files) not in CONFIGURATION:
         parser.error(f"{len(asked.files)} files are given: it takes the {UPDATE} of an update, or TOPO CONFIG [POLICY]")
@@ -134,22 +136,39 @@ def words_of_refused(asked: argparse.Namespace, line: str) -> tuple[str, ...]:
     return "check" if len(asked.files) == UPDATE else "config", *asked.files
 
 
+def warn(asked: argparse.Namespace, names: Names) -> None:
+    """Says what there is to warn of in the files, before they are shown."""
+    command = "check" if len(asked.files) == UPDATE else "config"
+    try:
+        _, is_ended = look(
+            How(asked.quiet, asked.strict), command, *map(names.given, asked.files), has_notes=False
+        )
+    except program.CannotRun:
+        return               # that is said where the program is begun
+    if is_ended:
+        raise Unable("nothing is written, as there are warnings and --strict is given", BAD_FILE)
+
+
 def main(words: Sequence[str]) -> int:
     asked, names = asked_by(words), Names()
     asked.files = [names.real(word) for word in asked.files]
     asked.schedule = names.real(asked.schedule) if asked.schedule else None
+    if asked.planner:
+        os.environ["PLANNER"] = asked.planner          # whatever is run for this page
     try:
+        warn(asked, names)
         text = page(values_of(asked, names))
     except NoVerdict as fault:
-        print(fault, file=sys.stderr)
+        if fault.status != UNREAD:
+            print(fault, file=sys.stderr)
         say_why(*map(names.given, words_of_refused(asked, str(fault))), good=(0, 1))
         return fault.status
     except program.CannotRun as fault:
         print(fault, file=sys.stderr)
         return program.NO_PROGRAM
     except OSError as fault:
-        print(f"a file can't be read: {fault}", file=sys.stderr)
-        return 6
+        print(f"{fault.filename or 'a file'} can't be read: {fault.strerror or fault}", file=sys.stderr)
+        return UNREAD
     sys.stdout.buffer.write(text.encode())
     return 0
 

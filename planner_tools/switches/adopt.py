@@ -2,6 +2,7 @@
 configuration. Where switches are in standalone mode, or empty, it leads them to entries of one's own.
 
     planner adopt NET --switches FILE [--own CONFIG] [--listen HOST:PORT] [--patience SECONDS] [--yes | --dry-run]
+                  [--strict] [--quiet]
 
 NET has topology.json, and may have policy.json and new.json; FILE and --listen are those of `planner collect`. What is found at each switch is printed. Where
 an entry can't be said in a configuration nothing is done. Otherwise the rules that are taken, and with them those of CONFIG that aren't there yet, are what
@@ -19,6 +20,8 @@ asked whether they may be put in. Then, in this order, at all switches:
 Between the first and the last of these messages nothing is claimed of packets: some go by NORMAL, some by the rules. Behind them IP packets for which there is
 no rule, and packets of other types (ARP, IPv6) without an entry of their own, are dropped, where NORMAL had sent them.
 
+With --strict it ends where there is something to warn of in the files, and nothing is written or sent. With --quiet nothing is said but refusals and the question.
+
 Exit status: 0 done, or nothing was to be done, or it was a dry run; 1 refused, not wanted, or a switch didn't answer; 2 wrong words; 3 and others those of
 `planner import` and `planner config`.
 """
@@ -32,12 +35,16 @@ import sys
 import tempfile
 import time
 
-from planner_tools.proved import say_why
+from planner_tools.files import like_folder
+from planner_tools.proved import BAD_FILE, Given, How, look, say_why
 from planner_tools.switches import openflow
 from planner_tools.switches.collect import Reading, Tables
-from planner_tools.switches.connections import OWN, Stop, Switches, host_and_port, read_switches, say
+from planner_tools.switches.connections import (
+    OWN, Stop, Switches, fault_words, listening_address, progress, read_switches, say,
+)
 from planner_tools.switches.entries import STANDALONE, TO_NORMAL
 from planner_tools.switches.expected import rule_action, rule_key
+from planner_tools.voice import TELLING
 
 TYPE_CHECKING = False
 if TYPE_CHECKING:
@@ -95,6 +102,10 @@ class Adopting:
         self.policy, self.new, self.old = (
             os.path.join(options.folder, f"{name}.json") for name in ("policy", "new", "old")
         )
+        if not os.path.isdir(options.folder):
+            raise Stop(
+                f"{options.folder} is no folder", f"name the one with topology.json{like_folder(options.folder)}"
+            )
         self.listed = read_switches(options.switches, self.topology)
         self.switches: Switches | None = None
         self.owed: set[str] = set()
@@ -105,7 +116,7 @@ class Adopting:
         self.switches = Switches(self.listed, self.options.listen, self.options.patience)
         self.read()
         for one in self.findings.values():
-            say(one.words())
+            progress(one.words())
         for one in self.findings.values():
             for fault in one.faults:
                 say(fault)
@@ -121,7 +132,7 @@ class Adopting:
         self.write_old(rules)
         defaults = [name for name, one in self.findings.items() if one.default]
         if not missing and not defaults:
-            say(f"nothing is to be done at the switches: they have the tables of {self.old}")
+            progress(f"nothing is to be done at the switches: they have the tables of {self.old}")
             return 0
         if not self.is_wanted(missing, defaults):
             return 0
@@ -129,7 +140,7 @@ class Adopting:
         self.look(rules)
         self.take_defaults_away(defaults)
         self.look(rules, without_defaults=True)
-        say(f"done: the switches have the tables of {self.old}, and no default entry")
+        progress(f"done: the switches have the tables of {self.old}, and no default entry")
         return 0
 
     def connections(self) -> Switches:
@@ -248,7 +259,14 @@ class Adopting:
         with tempfile.NamedTemporaryFile("w", encoding="utf-8", prefix="planner-", suffix=".json") as file:
             json.dump({"rules": rules}, file)
             file.flush()
-            status, _ = say_why("config", self.topology, file.name, *policy)
+            words: list[Given | str] = ["config", self.topology, Given(file.name, self.old), *policy]
+            if look(How(self.options.quiet, self.options.strict), *words)[1]:
+                say(
+                    "stopped: there are warnings, and --strict is given; nothing was written or sent. Next: correct"
+                    " what they name, or leave out --strict"
+                )
+                return BAD_FILE
+            status, _ = say_why(*words)
         if status != 0:
             say(
                 "stopped: no plan can start from these rules; nothing was written or sent. Next: --own CONFIG names"
@@ -265,7 +283,7 @@ class Adopting:
         try:
             with open(self.old, "x", encoding="utf-8") as file:
                 file.write(json.dumps({"rules": rules}, separators=(",", ":"), sort_keys=True) + "\n")
-            say(f"{self.old} is written: {len(rules)} rules")
+            progress(f"{self.old} is written: {len(rules)} rules")
         except FileExistsError:
             try:
                 with open(self.old, encoding="utf-8") as file:
@@ -277,22 +295,25 @@ class Adopting:
                     f"{self.old} is there, and says something else than the switches would have",
                     "move it away, and begin again",
                 ) from None
-            say(f"{self.old} has these rules already")
+            progress(f"{self.old} has these rules already")
 
     def is_wanted(self, missing: Sequence[dict[str, Any]], defaults: Sequence[str]) -> bool:
         """Whether the switches may be changed."""
+        tell: Callable[..., None] = say
+        if self.options.yes or self.options.dry_run:
+            tell = progress
         if missing:
-            say(
+            tell(
                 f"{count_words(len(missing))} will be put in, at"
                 f" {', '.join(sorted({rule['switch'] for rule in missing}))}"
             )
         if defaults:
-            say(
+            tell(
                 f"then the default entry of {', '.join(defaults)} will be taken away, alone: packets that no rule"
                 " takes, and those of other types (ARP, IPv6) without an entry of their own, are dropped from then on"
             )
         if self.options.dry_run:
-            say("a dry run ends here: nothing was sent")
+            progress("a dry run ends here: nothing was sent")
             return False
         if self.options.yes:
             return True
@@ -376,20 +397,23 @@ def parser_of() -> argparse.ArgumentParser:
     parser.add_argument("folder", metavar="NET")
     parser.add_argument("--switches", metavar="FILE", required=True)
     parser.add_argument("--own", metavar="CONFIG")
-    parser.add_argument("--listen", metavar="HOST:PORT", type=host_and_port)
+    parser.add_argument("--listen", metavar="HOST:PORT", type=listening_address)
     parser.add_argument("--patience", metavar="SECONDS", type=float, default=15.0)
     parser.add_argument("--yes", action="store_true")
     parser.add_argument("--dry-run", action="store_true")
+    parser.add_argument("--strict", action="store_true")
+    parser.add_argument("--quiet", action="store_true")
     return parser
 
 
 def main(words: Sequence[str]) -> int:
     options, adopting = parser_of().parse_args(words), None
+    TELLING.is_quiet = options.quiet
     try:
         adopting = Adopting(options)
         return adopting.run()
     except (Stop, OSError) as stop:
-        say(f"stopped: {stop}. Next: {getattr(stop, 'then', 'see to it, and begin again')}")
+        say(f"stopped: {fault_words(stop)}. Next: {getattr(stop, 'then', 'see to it, and begin again')}")
         return REFUSED
     finally:
         if adopting is not None and adopting.switches is not None:

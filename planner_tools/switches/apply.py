@@ -49,7 +49,9 @@ from planner_tools import events, program
 from planner_tools.proved import How, look
 from planner_tools.switches import ends, under_way
 from planner_tools.switches.comparison import Comparison, entries
-from planner_tools.switches.connections import Connection, Stop, host_and_port, lock, progress, read_switches, say
+from planner_tools.switches.connections import (
+    Connection, Stop, fault_words, listening_address, lock, progress, read_switches, say,
+)
 from planner_tools.switches.conversation import Conversation
 from planner_tools.switches.failures import files_of
 from planner_tools.switches.marking import Marking
@@ -250,10 +252,7 @@ def stopped(update: Update | None, options: argparse.Namespace, why: BaseExcepti
     elif isinstance(why, KeyboardInterrupt):
         what, then = ends.interrupt_words(why), go_on
     else:
-        what, then = (
-            f"{why.filename}: {why.strerror}" if isinstance(why, OSError) and why.filename else str(why),
-            f"see to it; then {go_on}",
-        )
+        what, then = fault_words(why), f"see to it; then {go_on}"
     then, far = other_ways(update, options, then), how_far(update, options)
     if update is not None:
         note_end(update, options, f"stopped: {what}; {far}. Next: {then}")
@@ -286,9 +285,9 @@ def typed(words: Sequence[str], then: str, dead: Collection[str] = ()) -> str:
     """The command that does what is next, as it can be typed, behind the words that say it. Of the switches that are
     dead the record says so: the command may be typed when they are there again."""
     found = MODES.search(then)
-    if not found:
+    if not found or "--recover with another record" in then:
         return ""
-    mode = found[0].split()
+    mode = [] if f"leave out {found[0]}" in then else found[0].split()
     others = [parted(word) for word in words if not word.startswith(MODE_WORDS)]
     said = {*mode, *dead}
     kept = [part for parts in others if parts[0] != "--without" or parts[1] not in said for part in parts]
@@ -337,7 +336,7 @@ def parser_of_words() -> argparse.ArgumentParser:
     for name in ("topology", "old", "new", "policy", "plan", "input"):
         parser.add_argument(name, metavar=name.upper())
     parser.add_argument("--switches", metavar="FILE", required=True)
-    parser.add_argument("--listen", metavar="HOST:PORT", type=host_and_port)
+    parser.add_argument("--listen", metavar="HOST:PORT", type=listening_address)
     add_pace(parser)
     parser.add_argument("--resume", action="store_true")
     parser.add_argument("--back", action="store_true")

@@ -26,7 +26,9 @@ import sys
 import time
 
 from planner_tools.switches import openflow
-from planner_tools.switches.connections import OWN, Stop, Switches, host_and_port, read_switches, say
+from planner_tools.switches.connections import (
+    OWN, Stop, Switches, fault_words, listening_address, read_switches, say,
+)
 from planner_tools.switches.entries import Entry, ExtendedEntry, cut_entries
 from planner_tools.switches.expected import Answers
 from planner_tools.switches.marks import Mark
@@ -305,12 +307,12 @@ def main(words: Sequence[str]) -> int:
     )
     parser.add_argument("topology", metavar="TOPOLOGY")
     parser.add_argument("--switches", metavar="FILE", required=True)
-    parser.add_argument("--listen", metavar="HOST:PORT", type=host_and_port)
+    parser.add_argument("--listen", metavar="HOST:PORT", type=listening_address)
     parser.add_argument("--patience", metavar="SECONDS", type=float, default=15.0)
     options = parser.parse_args(words)
     try:
         sys.stdout.write(read(options).replies())
         return 0
     except (Stop, OSError) as stop:
-        say(f"stopped: {stop}. Next: {getattr(stop, 'then', 'see to it, and ask again')}")
+        say(f"stopped: {fault_words(stop)}. Next: {getattr(stop, 'then', 'see to it, and ask again')}")
         return 1

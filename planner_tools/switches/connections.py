@@ -9,6 +9,7 @@ far as that goes at once.
 """
 from __future__ import annotations
 
+import argparse
 import errno
 import fcntl
 import os
@@ -47,6 +48,13 @@ class Stop(Exception):
 
 
 say, progress = TELLING.say, TELLING.progress
+
+
+def fault_words(fault: BaseException) -> str:
+    """What happened, in words: of a file that can't be opened or written its name and the reason."""
+    if not isinstance(fault, OSError) or not fault.strerror:
+        return str(fault)
+    return f"{fault.filename}: {fault.strerror}" if fault.filename else fault.strerror
 
 
 def read_switches(path: str, topology: str) -> dict[str, tuple[int, tuple[str, int] | None]]:
@@ -116,6 +124,16 @@ def host_and_port(text: str) -> tuple[str, int]:
     if ":" in host and not (host.startswith("[") and host.endswith("]")) or not 0 < int(port) < 1 << 16:
         raise ValueError(text)
     return host.removeprefix("[").removesuffix("]"), int(port)
+
+
+def listening_address(text: str) -> tuple[str, int]:
+    """The address behind --listen."""
+    try:
+        return host_and_port(text)
+    except ValueError:
+        raise argparse.ArgumentTypeError(
+            f"{text!r} isn't HOST:PORT, or a port from 1 to 65535 alone for every address of this machine"
+        ) from None
 
 
 def listed_address(text: str, where: str) -> tuple[str, int]:
@@ -309,7 +327,7 @@ class Switches:
             family, _, _, _, where = socket.getaddrinfo(*address, type=socket.SOCK_STREAM)[0]
             sock = socket.socket(family, socket.SOCK_STREAM)
         except OSError as fault:
-            self.tried[name] = str(fault)
+            self.tried[name] = fault_words(fault)
             return
         sock.setblocking(False)
         state = sock.connect_ex(where)

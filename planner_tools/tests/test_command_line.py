@@ -178,7 +178,7 @@ class Words(Case):
                 )
 
     def test_a_misspelt_folder_is_said_as_such(self):
-        for words in ("plan", "config", "page", "show", "apply"):
+        for words in ("plan", "config", "page", "show", "apply", "diff", "links", "policy", "route"):
             with self.subTest(words):
                 status, _, said = self.run_planner(words, "nett", folder=self.room.name)
                 self.assertEqual(
@@ -203,7 +203,7 @@ class Words(Case):
 
     def test_help_in_its_usual_forms(self):
         whole, version = self.run_planner("--help"), self.run_planner("--version")
-        for words in (["-h"], ["help"]):
+        for words in (["-h"], ["help"], ["help", "-h"]):
             self.assertEqual(whole, self.run_planner(*words))
         self.assertEqual(version, self.run_planner("-V"))
         for command in ("plan", "apply", "show", "to-ofctl"):
@@ -225,8 +225,51 @@ class Words(Case):
             self.assertRegex(said, rf"\b{name}\b")
 
 
+    def test_a_folder_or_a_file_of_switches_that_is_not_there(self):
+        for command, wanted in (
+            ("update nett --switches switches", (6, "nett is no folder", "; did you mean net?\n")),
+            ("adopt nett --switches switches", (1, "nett is no folder", "; did you mean net?\n")),
+            ("update net --switches nowhere", (6, "nowhere can't be read: No such file", "--switches names the file")),
+            ("adopt net --switches nowhere", (1, "stopped: nowhere: No such file or directory.", "begin again")),
+            ("collect net --switches nowhere", (1, "stopped: nowhere: No such file or directory.", "ask again")),
+        ):
+            with self.subTest(command):
+                status, _, said = self.run_planner(*command.split(), folder=self.room.name)
+                self.assertEqual(wanted[0], status, said)
+                for words in wanted[1:]:
+                    self.assertIn(words, said)
+
+
 class Warnings(Case):
     """What is warned of."""
+
+    # The commands of the front end that show what files mean, over files of the folder.
+    SHOWING = (
+        "diff .", "links . new.json", "policy .", "route . prefixes --from new.json", "page . plan.json",
+        "page topology.json new.json policy.json",
+    )
+
+    def test_the_commands_that_show_what_files_mean_warn_too(self):
+        self.edit("topology.json", lambda value: value["switches"][0].update(kapacity=3))
+        self.edit("policy.json", lambda value: value["demands"][0].update(thru=["s1"]))
+        self.write("prefixes", "10.0.0.0/24 s4:3\n")
+        for line in self.SHOWING:
+            with self.subTest(line):
+                status, text, said = self.run_planner(*line.split())
+                self.assertEqual(0, status, said)
+                self.assertEqual(1, said.count("switches[0].kapacity counts for nothing"), said)
+                self.assertEqual(line.startswith(("diff", "page")), "demands[0].thru counts for nothing" in said, said)
+                self.assertEqual((0, text), self.run_planner(*line.split(), "--quiet")[:2])
+                status, text, said = self.run_planner(*line.split(), "--strict")
+                self.assertEqual((3, ""), (status, text), said)
+                self.assertIn("switches[0].kapacity counts for nothing", said)
+
+    def test_an_option_s_file_is_looked_at_too(self):
+        self.write("prefixes", "10.0.0.0/24 s4:3\n")
+        self.edit("new.json", lambda value: value["rules"][0].update(in_prot=1))
+        status, _, said = self.run_planner("route", ".", "--from", "new.json")
+        self.assertEqual(0, status, said)
+        self.assertIn("rules[0].in_prot counts for nothing: no member has this name; did you mean `in_port`?", said)
 
     def test_many_members_that_count_for_nothing_are_one_warning(self):
         def mark(value):
@@ -336,6 +379,13 @@ class Answers(Case):
                     ),
                     said,
                 )
+
+    def test_trace_says_that_a_packet_is_sent_back(self):
+        for output, said in ((3, "planner: note: dropped by s2: its output is the port it came in by\n"), ("drop", "")):
+            self.edit("new.json", lambda value: value["rules"][1].update(out=output))
+            self.assertEqual(
+                (0, said), self.run_planner("trace", ".", "new.json", "s2:3", "untagged", "10.0.0.1")[::2]
+            )
 
     def test_explain_says_that_a_packet_is_sent_back(self):
         self.edit(

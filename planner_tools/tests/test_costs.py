@@ -141,6 +141,9 @@ class Words(unittest.TestCase):
         status, _, said = self.said("pack", *files_of("square"), "two_phase")
         self.assertEqual(2, status)
         self.assertIn("KIND is two_phase, and has to be `ordered` or `two-phase`; did you mean `two-phase`?", said)
+        status, _, said = self.said("pack", "square", "two_phase")
+        self.assertEqual(6, status)
+        self.assertIn("KIND is the one word more behind the files: `ordered` or `two-phase`\n", said)
 
     def test_behind_a_folder_the_kind_is_the_last_word(self):
         if not has_kinds():

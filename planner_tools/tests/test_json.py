@@ -161,6 +161,60 @@ class Answers(unittest.TestCase):
         )
         self.assertEqual((3, "warnings"), (status, value["verdict"]))
         self.assertEqual("demands[0].thru", value["warnings"][0]["places"][0]["member"])
+        status, value = self.object_of(
+            "diff", "topology.json", "old.json", "new.json", "policy-thru.json", "--strict", folder=folder
+        )
+        self.assertEqual((3, "warnings"), (status, value["verdict"]))
+
+    def test_each_command_that_shows_or_drafts_has_a_usual_run(self):
+        with tempfile.TemporaryDirectory() as room:
+            place = os.path.join(room, "prefixes")
+            with open(place, "w", encoding="ascii") as file:
+                file.write("10.0.0.0/24 s4:3\n")
+            for words, verdict, members in (
+                ("diff .", "done", ("counts", "changes")), ("links .", "done", ("links", "switches")),
+                ("show .", "done", ("rounds",)), ("links . --empty s4:3-s4", "wrong words", ()),
+                ("links . --empty s3-s4", "used", ()), ("policy .", "done", ()), (f"route . {place}", "done", ()),
+                ("page . plan.json", "done", ()), (f"to-ofctl plan.json {room}/scripts", "done", ()),
+                (f"from-ofctl topology.json {' '.join(f's{one}=/dev/null' for one in range(1, 5))}", "done", ()),
+            ):
+                with self.subTest(words):
+                    status, value = self.object_of(*words.split())
+                    self.assertEqual((verdict, []), (value["verdict"], [one for one in members if one not in value]))
+                    if words.split()[0] in ("policy", "route", "from-ofctl"):
+                        self.assertEqual([{"policy": "demands"}.get(words.split()[0], "rules")], list(value["answer"]))
+
+    def test_a_command_of_the_front_end_has_the_reason_of_the_program(self):
+        with tempfile.TemporaryDirectory() as room:
+            bad, loop = os.path.join(room, "bad.json"), os.path.join(room, "loop.json")
+            with open(bad, "w", encoding="ascii") as file:
+                file.write('{"rules": [{"switch": "s1", "priority": 0, "dst": "10.0.0.0/24", "out": 2}]}')
+            with open(loop, "w", encoding="ascii") as file:
+                rules = [
+                    {"switch": switch, "priority": 1, "dst": "10.0.0.0/24", "out": out}
+                    for switch, out in (("s1", 2), ("s2", 2), ("s3", 3))
+                ]
+                json.dump({"rules": rules}, file)
+            for words in (
+                f"diff topology.json old.json {bad}", f"links topology.json {bad}", f"show topology.json {bad}",
+                f"page topology.json {bad}", f"policy topology.json old.json {bad}",
+            ):
+                with self.subTest(words):
+                    _, value = self.object_of(*words.split())
+                    self.assertEqual(
+                        ("bad file", "BadPriority", ["rules[0].priority"]),
+                        (value["verdict"], value["reason"]["name"], [one["member"] for one in value["places"]]),
+                    )
+            _, value = self.object_of("policy", "topology.json", "old.json", loop)
+            self.assertEqual(
+                ("breaks", "Loop", {"from": "s1:1", "vlan": "untagged", "address": "10.0.0.0"}, [loop]),
+                (value["verdict"], value["reason"]["name"], value["class"], [one["file"] for one in value["paths"]]),
+            )
+
+    def test_no_ordered_plan_is_a_reason(self):
+        folder = os.path.join(test_front.EXAMPLES, "detour")
+        _, value = self.object_of("pack", ".", "ordered", folder=folder)
+        self.assertEqual(("refused", {"name": "NoOrderedPlan"}), (value["verdict"], value["reason"]))
 
     def test_commands_of_the_front_end(self):
         status, value = self.object_of("show", ".")

@@ -68,6 +68,15 @@ class OneRoad(unittest.TestCase):
         found = {path for path, tree in modules() if calls(tree, "program", "run") or calls(tree, "program", "Started")}
         self.assertEqual(found - {"proved.py"}, set(RUN))
 
+    def test_a_run_is_asked_for_more_only_by_those_that_explain_it(self):
+        found = {
+            path
+            for path, tree in modules()
+            for node in ast.walk(tree)
+            if isinstance(node, ast.Attribute) and node.attr == "ask" and ast.unparse(node.value).endswith("run")
+        }
+        self.assertEqual(found, {"cautions.py", "explanations.py", "story.py"})
+
     def test_the_one_function_is_the_way_of_all_others(self):
         trees = dict(modules())
         functions = {node.name: node for node in ast.walk(trees["proved.py"]) if isinstance(node, ast.FunctionDef)}
@@ -80,7 +89,7 @@ class OneRoad(unittest.TestCase):
             )
         for path in (
             "update/update.py", "switches/apply.py", "switches/comparison.py", "switches/conversation.py",
-            "page/page.py", "show.py",
+            "switches/adopt.py", "page/page.py", "show.py", "intent/asking.py",
         ):
             self.assertTrue("planner_tools.proved" in imported(trees[path]), path)
 

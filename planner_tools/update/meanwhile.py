@@ -32,21 +32,25 @@ def spans(plan: dict[str, Any]) -> dict[str, tuple[int, int]]:
 
 
 def dropped(plan: dict[str, Any], old: Sequence[dict[str, Any]], to_controller: set[str]) -> list[str]:
-    """Which packets are dropped in which rounds that aren't now."""
-    lines = []
-    for switch, (first, last) in spans(plan).items() if plan["kind"] == "two-phase" else ():
-        rounds = f"in rounds {first} to {last} {switch} drops"
-        if switch in to_controller:
-            lines.append(
-                f"Note: {rounds} IP packets of hosts that no rule takes, as of DHCP, which it sends to the controller"
-                " now."
-            )
-        if any(rule["switch"] == switch and rule.get("vlan", "any") == "any" for rule in old):
-            lines.append(
-                f"Note: {rounds} IP packets of hosts with VLANs that the topology doesn't declare, which rules for any"
-                " VLAN take now."
-            )
-    return lines
+    """Which packets are dropped in which rounds that aren't now: a line for each kind of packets and span of rounds."""
+    if plan["kind"] != "two-phase":
+        return []
+    taking = {rule["switch"] for rule in old if rule.get("vlan", "any") == "any"}
+    found: dict[tuple[bool, int, int], list[str]] = {}
+    for switch, (first, last) in spans(plan).items():
+        for is_sent_up, names in ((True, to_controller), (False, taking)):
+            if switch in names:
+                found.setdefault((not is_sent_up, first, last), []).append(switch)
+    return [
+        f"Note: in rounds {first} to {last} {', '.join(names)} drop{'s' if len(names) == 1 else ''} IP packets of hosts"
+        + (
+            " with VLANs that the topology doesn't declare, which rules for any VLAN take now."
+            if is_undeclared
+            else f" that no rule takes, as of DHCP, which {'it sends' if len(names) == 1 else 'they send'} to the"
+            " controller now."
+        )
+        for (is_undeclared, first, last), names in sorted(found.items())
+    ]
 
 
 def cookies(plan: dict[str, Any], counts: dict[str, str]) -> list[str]:

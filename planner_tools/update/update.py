@@ -30,11 +30,11 @@ import sys
 from planner_tools import network as nets
 from planner_tools import events, program, show
 from planner_tools.costs import OTHER, Costs
-from planner_tools.files import read_json
+from planner_tools.files import like_folder, read_json
 from planner_tools.intent import diff
 from planner_tools.proved import How, answer_beside, answer_for, look, say_why
 from planner_tools.switches import apply, collect, connections, ends, under_way
-from planner_tools.switches.connections import host_and_port, progress, say
+from planner_tools.switches.connections import fault_words, host_and_port, listening_address, progress, say
 from planner_tools.update.meanwhile import meanwhile
 from planner_tools.update.summary import counted, summary
 from planner_tools.voice import TELLING
@@ -57,6 +57,12 @@ NEXT = {
     ("plan", REFUSED): (
         "in the tables of the switches (`old`) or in new.json (`new`) packets have no good path: `planner page"
         " {topology} {config} {policy}` shows it"
+    ),
+    ("old", REFUSED): (
+        "in the tables of the switches (`old`) packets have no good path, so no plan can start from them: `planner page"
+        " {topology} {config} {policy}` shows it. Where entries are missing, or there are none, `planner adopt {folder}"
+        " --switches {switches} --own CONFIG` puts those of CONFIG in; where some are wrong docs/CONTROLLER.md says"
+        " what to do (a network as one finds it)"
     ),
     ("plan", BAD_FILE): "correct that file; docs/FORMATS.md has every refusal",
     ("plan", 4): "no order of single changes was found, and two phases want more tags: widen `tags` in topology.json",
@@ -124,6 +130,12 @@ class Update:
 
     def look(self) -> None:
         """Sees that the files are there."""
+        if not os.path.isdir(self.options.folder):
+            raise Stopped(
+                "the files", f"{self.options.folder} is no folder",
+                f"name the one with {', '.join(f'{name}.json' for name in WANTED)}{like_folder(self.options.folder)}",
+                UNREADABLE,
+            )
         for path in (*self.files.values(), self.options.switches):
             try:
                 with open(path, "rb") as file:
@@ -131,7 +143,12 @@ class Update:
             except OSError as fault:
                 raise Stopped(
                     "the files", f"{path} can't be read: {fault.strerror}",
-                    f"{self.options.folder} has to have {', '.join(f'{name}.json' for name in WANTED)}", UNREADABLE,
+                    (
+                        "--switches names the file that says which switches there are"
+                        if path == self.options.switches
+                        else f"{self.options.folder} has to have {', '.join(f'{name}.json' for name in WANTED)}"
+                    ),
+                    UNREADABLE,
                 ) from fault
         try:
             with open(self.files["topology"], encoding="utf-8") as file:
@@ -206,7 +223,7 @@ class Update:
                 raise Stopped("collect", found.what, found.then)
             return tables.replies()
         except (connections.Stop, OSError) as stop:
-            say(f"stopped: {stop}. Next: {getattr(stop, 'then', 'see to it, and ask again')}")
+            say(f"stopped: {fault_words(stop)}. Next: {getattr(stop, 'then', 'see to it, and ask again')}")
             raise Stopped("collect", "the lines above say why", "") from stop
 
     def with_the_absent(self, text: str) -> str:
@@ -236,7 +253,8 @@ class Update:
         self.see_that_it_is_heard()
         if status == 0:
             return text
-        then = NEXT.get((step, status), "docs/FORMATS.md has every refusal")
+        is_old = text.startswith("refused: 1 EndBreaks old ")
+        then = NEXT.get(("old" if is_old else step, status), "docs/FORMATS.md has every refusal")
         if text.startswith(("no ordered plan\n", "too ")):
             then = next(
                 (NEXT_OF_KIND[kind, status] for kind in self.options.kind if (kind, status) in NEXT_OF_KIND), then
@@ -244,7 +262,10 @@ class Update:
         config = self.path("old.json") if " old " in text else self.files["new"]
         raise Stopped(
             step, f"`planner {command}` says: {'; '.join(text.splitlines()) or f'nothing, with status {status}'}",
-            then.format(config=config, **self.files), status,
+            then.format(
+                config=config, folder=self.options.folder, switches=self.options.switches, **self.files
+            ),
+            status,
         )
 
     def plan(self) -> dict[str, Any]:
@@ -363,13 +384,19 @@ class Update:
         return status
 
 
+def typed_address(text: str) -> str:
+    """The word behind --listen, where it is an address."""
+    listening_address(text)
+    return text
+
+
 def main(words: Sequence[str]) -> int:
     parser = argparse.ArgumentParser(
         prog="planner update", description=__doc__, formatter_class=argparse.RawDescriptionHelpFormatter
     )
     parser.add_argument("folder", metavar="DIR")
     parser.add_argument("--switches", metavar="FILE", required=True)
-    parser.add_argument("--listen", metavar="HOST:PORT")
+    parser.add_argument("--listen", metavar="HOST:PORT", type=typed_address)
     apply.add_pace(parser)
     parser.add_argument("--without", metavar="SWITCH", action="append", default=[])
     parser.add_argument("--yes", action="store_true")
@@ -382,11 +409,6 @@ def main(words: Sequence[str]) -> int:
     options = parser.parse_args(words)
     TELLING.is_quiet = options.quiet
     ends.heed_signals()
-    if options.listen is not None:
-        try:
-            host_and_port(options.listen)
-        except ValueError:
-            parser.error(f"--listen {options.listen}: not HOST:PORT")
     update = Update(options)
     try:
         return update.run()

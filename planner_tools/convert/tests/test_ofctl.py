@@ -319,6 +319,12 @@ class ToOfctl(unittest.TestCase):
                 said,
             )
             self.assertIn("check refuses it", next(rounds.iterdir()).read_text())
+            again = pathlib.Path(folder, "again")
+            status, made, said = planner("to-ofctl", EXAMPLES / "square" / "plan-at-once.json", again, "--strict")
+            self.assertEqual((status, made, again.exists()), (3, "", False), said)
+            self.assertIn("nothing was written. Next: leave out --strict to have the scripts", said)
+            status, made, said = planner("to-ofctl", EXAMPLES / "square" / "plan-at-once.json", again, "--quiet")
+            self.assertEqual((status, len(made.splitlines()), said), (0, 1, ""))
             alone = pathlib.Path(folder, "plan.json")
             alone.write_text((EXAMPLES / "square" / "plan.json").read_text())
             status, made, said = planner("to-ofctl", alone, pathlib.Path(folder, "more"))

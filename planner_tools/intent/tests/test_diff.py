@@ -183,6 +183,24 @@ class Words(unittest.TestCase):
             ],
         )
 
+    def test_what_is_sent_back_to_where_it_came_from_is_said_to_be(self):
+        topology, old, new = (
+            json.loads((EXAMPLES / "square" / f"{name}.json").read_text()) for name in ("topology", "old", "new")
+        )
+        next(rule for rule in new["rules"] if rule["switch"] == "s2")["out"] = 3
+        folder = Folder(self, topology=topology, old=old, new=new)
+        self.assertIn(
+            "    now s2, dropped at s2 (its output is the port it came in by)\n", front("diff", folder.path)[1]
+        )
+        lost = [one for one in json.loads(front("diff", folder.path, "--json")[1])["changes"] if one["kind"] == "lost"]
+        self.assertEqual(
+            [({"stops": ["s2:3"], "end": "dropped", "at": "s2", "back": True}, ["s2:3"])],
+            [(one["new"], one["from"]) for one in lost],
+        )
+        next(rule for rule in new["rules"] if rule["switch"] == "s2")["out"] = "drop"
+        folder = Folder(self, topology=topology, old=old, new=new)
+        self.assertIn("    now s2, dropped at s2\n", front("diff", folder.path)[1])
+
     def test_what_breaks_the_policy_is_said(self):
         folder = Folder(
             self,
@@ -200,7 +218,7 @@ class Words(unittest.TestCase):
         status, text, _ = planner("diff", folder.path)
         self.assertEqual(status, 0)
         self.assertIn("no more:", text)
-        self.assertIn("dropped at s2: it must arrive", text)
+        self.assertIn("dropped at s2 (its output is the port it came in by): it must arrive", text)
         self.assertIn("s2: 10.0.0.0/24, priority 100, to s1 (port 1), was s3 (port 2)", text)
 
     def test_neighbours_that_say_the_same_are_one(self):

@@ -237,7 +237,10 @@ class Words(unittest.TestCase):
             ("10.0.0.0/24 s4:4\n", (), 3, "the network has no host port s4:4"),
             ("10.0.0.0/24 s4:3\n10.0.0.0/24 s1:1\n", (), 3, "line 2: 10.0.0.0/24 stands twice"),
             ("10.0.0.0/24 s4:3\n", ("--drain", "s9"), 2, "neither a link nor a switch s9"),
-            ("10.0.0.0/24 s4:3\n", ("--weights", "nowhere"), 6, "nowhere"),
+            (
+                "10.0.0.0/24 s4:3\n", ("--weights", "nowhere"), 6,
+                "nowhere: No such file or directory\n    right: lines as `s1:2 s2:1 40.5`",
+            ),
             ("10.0.0.0/24 s4:3\n", ("--weights", "prefixes"), 3, "it isn't the two ends of a link, and its weight"),
             ("10.0.0.0/24 s4:3\n", ("--from", "topology.json"), 3, "topology.json"),
         ):

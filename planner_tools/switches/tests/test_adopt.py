@@ -89,6 +89,21 @@ class Adopting(unittest.TestCase):
         self.assertEqual(0, status, said)
         self.assertIn("nothing is to be done at the switches", said)
 
+    def test_what_the_policy_says_amiss_is_warned_of(self):
+        net = self.network(is_empty=False, has_default=())
+        policy = net.wanted / "policy.json"
+        policy.write_text(policy.read_text().replace('"deliver"', '"thru": ["s1"], "deliver"', 1))
+        status, said = self.adopt(net, "--dry-run")
+        self.assertEqual(0, status, said)
+        self.assertIn("demands[0].thru counts for nothing: no member has this name; did you mean `through`?", said)
+        (net.wanted / "old.json").unlink()
+        status, said = self.adopt(net, "--strict")
+        self.assertEqual(3, status, said)
+        self.assertIn("stopped: there are warnings, and --strict is given; nothing was written or sent.", said)
+        self.assertFalse((net.wanted / "old.json").exists())
+        self.assertEqual((0, ""), self.adopt(net, "--quiet"))
+        self.is_untouched(net)
+
     def test_a_dry_run_and_a_run_that_nobody_answers_send_nothing(self):
         net = self.network()
         status, said = self.adopt(net, "--dry-run")

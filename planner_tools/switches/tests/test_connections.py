@@ -1,4 +1,5 @@
 """Tests of the connections: what a switch says of its version, late switches, and echoes."""
+import argparse
 import contextlib
 import io
 import socket
@@ -8,7 +9,9 @@ import unittest
 
 import fake_switch
 from planner_tools.switches import openflow
-from planner_tools.switches.connections import Stop, Switches, address_words, host_and_port, listed_address
+from planner_tools.switches.connections import (
+    Stop, Switches, address_words, fault_words, host_and_port, listed_address, listening_address,
+)
 
 HELLO_13 = bytes.fromhex("0400001000000001" "0001000800000010")
 ERROR_13 = bytes.fromhex("0401000c00000001" "00000000")
@@ -141,6 +144,25 @@ class Connecting(unittest.TestCase):
         self.addCleanup(switches.close)
         self.until(switches, lambda _: switches.tried)
         self.assertEqual(switches.why_away("s1"), " (Connection refused)")
+
+    def test_what_happened_is_said_in_words(self):
+        for fault, words in (
+            (FileNotFoundError(2, "No such file or directory", "switches"), "switches: No such file or directory"),
+            (socket.gaierror(-2, "Name or service not known"), "Name or service not known"),
+            (Stop("s1 isn't there", "see to it"), "s1 isn't there"),
+            (OSError("timed out"), "timed out"),
+        ):
+            self.assertEqual(words, fault_words(fault))
+
+    def test_what_is_no_address_behind_listen_is_said(self):
+        self.assertEqual(("", 6653), listening_address("6653"))
+        for text in ("here", "here:", "here:0", "::1:6653"):
+            with self.assertRaises(argparse.ArgumentTypeError) as fault:
+                listening_address(text)
+            self.assertEqual(
+                f"{text!r} isn't HOST:PORT, or a port from 1 to 65535 alone for every address of this machine",
+                str(fault.exception),
+            )
 
     def test_a_switch_of_another_version_is_named(self):
         switches = self.connect(5.0, fake_switch.FakeSwitch(0xA1, ("127.0.0.1", 0), listen=True, hello=HELLO_13))

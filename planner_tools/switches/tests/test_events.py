@@ -83,6 +83,21 @@ class Events(UpdateTest):
             self.assertEqual(2, len(events[[one["event"] for one in events].index("plan")]["plan"]["rounds"]))
         self.assertTrue(net.has(network.EXAMPLES / "square" / "new.json"))
 
+    def test_warnings_that_end_it(self):
+        net = Network(self, "square")
+        policy = json.loads(net.files[3].read_text())
+        policy["demands"][0]["thru"] = ["s1"]
+        net.files[3] = net.folder / "policy.json"
+        net.files[3].write_text(json.dumps(policy))
+        done, events = self.events_of(net, "--strict")
+        self.assertEqual(3, done.returncode, done.stdout)
+        self.assertEqual(["warning", "end"], [one["event"] for one in events if one["event"] not in ("says", "note")])
+        self.assertEqual("warnings", events[-1]["verdict"])
+        policy["demands"][0] = {}
+        net.files[3].write_text(json.dumps(policy))
+        done, events = self.events_of(net, "--strict")
+        self.assertEqual(("stopped", 1), (events[-1]["verdict"], done.returncode), done.stdout)
+
     def test_a_session_that_fails(self):
         net = Network(self, "square", only={"s1": {"error_at": 1}})
         done, events = self.events_of(net)

@@ -296,6 +296,8 @@ class Words(unittest.TestCase):
             self.assertRegex(typed(given, then), rf" apply t.json {words}`\)$")
             without = words.replace("--without s2 ", "")
             self.assertRegex(typed(given, then, ["s2"]), rf" apply t.json {without}`\)$")
+        self.assertRegex(typed(given, "leave out --resume to begin an update"), r" t.json --without s2 --wait 2`\)$")
+        self.assertEqual("", typed(given, "--recover with another record goes on from there; or by --resume"))
         self.assertEqual(MODES.search("--back --repair w --repair y does")[0], "--back --repair w --repair y")
 
 

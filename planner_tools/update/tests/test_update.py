@@ -66,12 +66,12 @@ class UpdateCommand(unittest.TestCase):
         for switch in net.switches.values():
             self.assertEqual(switch.flow_messages, 0)
 
-    def stops(self, net, run, status, step, what, then=""):
+    def stops(self, net, run, status, step, what, *then):
         found, said = run
         self.assertEqual(found, status, said)
         last = said.splitlines()[-1]
         self.assertIn(f"stopped at {step}", last)
-        for words in (what, then, "Nothing was sent"):
+        for words in (what, *then, "Nothing was sent"):
             self.assertIn(words, last)
         self.nothing_was_sent(net)
 
@@ -178,7 +178,7 @@ class Updating(UpdateCommand):
         )
         self.assertIn(
             (
-                f"Note: in rounds {min(rounds)} to {max(rounds)} s drops IP packets of hosts with VLANs that the"
+                f"Note: in rounds {min(rounds)} to {max(rounds)} s, d drop IP packets of hosts with VLANs that the"
                 " topology doesn't declare, which rules for any VLAN take now.\n"
             ),
             said,
@@ -329,12 +329,12 @@ class Updating(UpdateCommand):
         )
 
     def test_what_no_plan_is_made_for_stops_at_plan(self):
-        for change, status, what, then in (
+        for change, status, what, *then in (
             (
                 lambda net: self.change(
                     net, "policy", demands=[{"from": "s4:3", "dst": "10.0.0.0/24", "deliver": True}]
                 ),
-                1, "refused: 1 EndBreaks old", "update-1/old.json",
+                1, "refused: 1 EndBreaks old", "update-1/old.json", "--own CONFIG` puts those of CONFIG in",
             ),
             (lambda net: self.change(net, "new", rules=[]), 1, "refused: 1 EndBreaks new", "wanted/new.json"),
             (lambda net: self.change(net, "new", rules=[{}]), 3, "bad new", "correct that file"),
@@ -342,7 +342,7 @@ class Updating(UpdateCommand):
             net = self.network()
             change(net)
             with self.subTest(what):
-                self.stops(net, self.run_it(net, "--yes"), status, "step 3 of 5, plan", what, then)
+                self.stops(net, self.run_it(net, "--yes"), status, "step 3 of 5, plan", what, *then)
         net = self.network("detour")
         self.change(net, "topology", tags=[])
         self.stops(net, self.run_it(net, "--yes"), 4, "step 3 of 5, plan", "too few tags", "widen `tags`")
