@@ -1,5 +1,5 @@
 -- What is asked of the classes of a target, and of what the code keeps of one.
-use Rattle.std.specs.Prelude.{◌≡◌, ◌<◌, Bool, List, length, Option}
+use Rattle.std.specs.Prelude.{◌≡◌, ◌<◌, Bool, List, length}
 use Rattle.topology.specs.Networks.{Network}
 use Rattle.flow_rules.specs.Tables.{TableState, rules_of_all}
 use Rattle.path_walk.specs.UserConfigs.{IsUserConfig}
@@ -26,5 +26,5 @@ abbrev pub HasAtoms : ClassList → List Bool → Type 0
 HasAtoms classes looked = 0 < class_count classes → length looked ≡ atom_count classes
 
 -- the least before sets that were found last, if any were, are those of a class
-abbrev pub HoldsLastOf : Target → Option SetsState → Type 0
+abbrev pub HoldsLastOf : Target → List SetsState → Type 0
 HoldsLastOf to last = HoldsLast to.net (record { demands = to.demands; classes = to.classes }) last

@@ -173,7 +173,7 @@ pub(crate) fn failure_beside(
         → AreWatched goal.now tables changes watch.old.came.items watch.new.came.items) }
     ensures count { length watch.new.came.items ≡ length watch.old.came.items }
 {
-    let mut last = LastSets::none(alloc);
+    let mut last = LastSets::none(tried.alloc);
     if let Some(failure) = classes_failure(goal, watch, tried, looked, &mut last, true)? {
         return Ok(Some(failure));
     }
