@@ -475,7 +475,7 @@ OWN_OPTIONS = {
         ("--patience SECONDS", "how long a switch may take (15 s)"), ("--yes", "doesn't ask before the first change"),
         ("--dry-run", "ends before the first change"),
     ],
-    "collect": [*CONNECTIONS, ("--patience SECONDS", "how long a switch may take (10 s)")],
+    "collect": [*CONNECTIONS, ("--patience SECONDS", "how long a switch may take (15 s)")],
     "apply": [
         *CONNECTIONS, *CARRYING_OUT, ("--resume", "goes on with the record of an earlier run"),
         (
