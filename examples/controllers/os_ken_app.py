@@ -15,7 +15,7 @@ from os_ken.ofproto import ofproto_v1_0
 
 import planner
 
-STANDS = 2.0     # after so many seconds of a new connection what was sent on the old one is known to be done or lost
+STANDS = 2.0     # after so many seconds of a new connection what was sent on the old one is taken to be done or lost
 
 
 class Updates(app_manager.OSKenApp):
