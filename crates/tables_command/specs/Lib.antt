@@ -1,3 +1,4 @@
 pub mod Tabled
+pub mod ReadBack
 pub mod Listed
 pub mod Promise
