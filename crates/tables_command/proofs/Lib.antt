@@ -5,5 +5,6 @@ pub mod Spelled
 pub mod StateRanges
 pub mod PlacedLaws
 pub mod ReadBackLaws
+pub mod BothWaysLaws
 pub mod TabledLaws
 pub mod TurnsNothingLaws
