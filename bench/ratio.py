@@ -4,7 +4,8 @@ system together, and their ratio.
 
     bench/ratio.py [-n TIMES] [-t SECONDS] FIRST SECOND [NAME..]
 
-NAME is the name of a workload or the begin of one; without, all of bench/workloads.py are run. Both programs run TIMES times, 7 if nothing is said, in
+NAME is the name of a workload or the begin of one; without, all of bench/workloads.py are run. For FIRST or SECOND the word `release` stands for the program
+of the last release, as the history of this checkout has it. Both programs run TIMES times, 7 if nothing is said, in
 turns; the median of each counts. One whose median is below 20 ms runs on, since chance makes more of so short a time: until its runs took 0.2 s together,
 and 15 times at most. A program that takes longer than SECONDS, 300 if nothing is said, is ended. Plans that are read and aren't among
 the files of a workload are made by the second program. It builds nothing, and where the texts or the statuses of the two differ it says so and ends with
@@ -20,6 +21,7 @@ import subprocess
 import sys
 import tempfile
 
+import release
 from workloads import PLAN, WORKLOADS
 
 TYPE_CHECKING = False
@@ -28,6 +30,7 @@ if TYPE_CHECKING:
     from typing import Any, Sequence
     from workloads import Workload
 
+ROOT = pathlib.Path(__file__).resolve().parent.parent
 # A program whose median is below so many seconds is run more often, ...
 QUICK = 0.02
 # ... until its runs took so many seconds together, ...
@@ -107,6 +110,32 @@ def row(title: str, medians: Sequence[float | None]) -> str:
     return f"| {title} | {cells[0]} | {cells[1]} | {ratio} |"
 
 
+def program_of(word: str, room: str) -> str:
+    """The path of a program that is named by its path or by the word for the last release, which is put into the
+    folder. Raises NoRelease."""
+    if word != "release":
+        return os.path.abspath(word)
+    path = pathlib.Path(room) / "release"
+    print(f"the last release is {release.write_program(ROOT, path)}", file=sys.stderr)
+    return str(path)
+
+
+def compare_all(programs: Sequence[str], names: Sequence[str], limit: float, times: int) -> bool:
+    """Prints the row of each workload whose name begins with one of these, and returns whether some answers differ."""
+    print("| Work | first, s | second, s | ratio |\n|---|---|---|---|")
+    differ = False
+    for name, (title, make) in WORKLOADS.items():
+        if names and not any(name.startswith(it) for it in names):
+            continue
+        with tempfile.TemporaryDirectory() as folder:
+            workload = make()
+            prepare(workload, pathlib.Path(folder), programs[1])
+            medians, same = compare(programs, workload, folder, limit, times)
+        print(row(title, medians) + ("" if same else " other answers |"), flush=True)
+        differ = differ or not same
+    return differ
+
+
 def main() -> int:
     parser = argparse.ArgumentParser(description=__doc__, formatter_class=argparse.RawDescriptionHelpFormatter)
     parser.add_argument("-n", type=int, default=7, metavar="TIMES")
@@ -115,19 +144,12 @@ def main() -> int:
     parser.add_argument("second", metavar="SECOND")
     parser.add_argument("names", nargs="*", metavar="NAME")
     args = parser.parse_args()
-    programs = [os.path.abspath(args.first), os.path.abspath(args.second)]
-    print("| Work | first, s | second, s | ratio |\n|---|---|---|---|")
-    differ = False
-    for name, (title, make) in WORKLOADS.items():
-        if args.names and not any(name.startswith(it) for it in args.names):
-            continue
-        with tempfile.TemporaryDirectory() as folder:
-            workload = make()
-            prepare(workload, pathlib.Path(folder), programs[1])
-            medians, same = compare(programs, workload, folder, args.t, args.n)
-        print(row(title, medians) + ("" if same else " other answers |"), flush=True)
-        differ = differ or not same
-    return int(differ)
+    with tempfile.TemporaryDirectory() as room:
+        try:
+            programs = [program_of(it, room) for it in (args.first, args.second)]
+        except release.NoRelease as why:
+            parser.error(str(why))
+        return int(compare_all(programs, args.names, args.t, args.n))
 
 
 if __name__ == "__main__":

@@ -14,14 +14,18 @@ sys.path.insert(0, str(pathlib.Path(__file__).resolve().parent.parent / "reliabi
 
 import model  # noqa: E402
 import workloads  # noqa: E402
-from workloads import GREATEST_FILE, WORKLOADS  # noqa: E402
+from workloads import CHECK, GREATEST_FILE, WORKLOADS  # noqa: E402
 
 # Large to make, and of the same kind as others.
-LEFT_OUT = {"check-spread", "check-big-rounds", "check-kinds-big", "simulate-spread"}
+LEFT_OUT = {"check-spread", "check-big-rounds", "check-kinds-big", "check-parallel-apart", "simulate-spread"}
 # How many rules the plans have, how many rounds and how many changes, where the titles speak of them.
 COUNTS = {
     "check-long-table": (8000, 4200, 24_396),
     "check-kinds": (8000, 1002, 18_000),
+    "check-few-replaced": (16_000, 4200, 87_366),
+    "check-few-above": (8004, 4200, 32_792),
+    "check-far": (127, 4200, 533_400),
+    "replay-long-table": (8190, 30, 245_700),
     "check-clash": (128_000, 1, 128_000),
     "check-repeat": (127_999, 1, 128_000),
     "check-touched": (2048, 64, 65_536),
@@ -36,6 +40,8 @@ CLASSES = {
     "explain-chains": 8184,
     "plan-chains": 1056,
     "pack-chains": 1056,
+    **dict.fromkeys(("check-other-chains", "plan-other-chains", "certify-other-chains", "pack-other-chains"), 8184),
+    "check-far": 8192,
     "check-touched": 8192,
     "check-touched-few": 8192,
     "check-parallel-wide": 7998,
@@ -46,8 +52,12 @@ KINDS = workloads.two_kinds(40)
 
 
 def values(workload):
-    """The files of a workload as values, by their names without `.json`."""
-    return {name: json.loads(value) if isinstance(value, str) else value for name, value in workload.files.items()}
+    """The files of a workload as values, by their names without `.json`. A schedule isn't JSON."""
+    return {
+        name: json.loads(value) if isinstance(value, str) else value
+        for name, value in workload.files.items()
+        if name != "schedule"
+    }
 
 
 def carried_out(workload):
@@ -184,6 +194,29 @@ class TableTests(unittest.TestCase):
             self.assertEqual([len(tables["r0"]) for tables in motion.tables], [1, 41, 39, 41, 39, 41, 1])
             self.assertEqual([len(it) for it in motion.rounds], [40, 2, 2, 2, 2, 40])
 
+    def test_a_few_rules_are_replaced_by_turns(self):
+        motion = carried_out(workloads.replaced_in_turns(5, 3, 8))
+        self.assertEqual([len(tables["r0"]) for tables in motion.tables], [1, 9, 9, 9, 9, 9, 9, 1])
+        self.assertEqual(
+            [[rule["priority"] for rule in values(workloads.replaced_in_turns(5, 3, 8))["plan"]["rules"][i : i + 3]]
+             for i in (0, 3, 8, 11)],
+            [[1, 2, 3], [4, 5, 6], [1, 2, 3], [4, 5, 6]],
+        )
+        rounds = values(workloads.replaced_in_turns(5, 3, 8))["plan"]["rounds"][1:-1]
+        self.assertEqual(
+            [[i for _, i in it] for it in rounds], [[8, 9, 10], [11, 12, 13], [0, 1, 2], [3, 4, 5], [8, 9, 10]]
+        )
+
+    def test_a_few_rules_come_and_go_above_the_others(self):
+        motion = carried_out(workloads.inserted_above(4, 3, 8))
+        self.assertEqual([len(tables["r0"]) for tables in motion.tables], [1, 9, 12, 9, 12, 9, 1])
+        rules = values(workloads.inserted_above(4, 3, 8))["plan"]["rules"]
+        self.assertEqual([rule["priority"] for rule in rules], list(range(1, 12)))
+
+    def test_a_schedule_has_each_change_once(self):
+        events = workloads.recorded_changes(2, 3).files["schedule"].split("\n")
+        self.assertEqual(events, ["start", "change 0", "change 1", "change 2", "settle"] * 2 + [""])
+
     def test_rules_come_and_go(self):
         motion = carried_out(workloads.toggled_rules(4, KINDS))
         self.assertEqual([len(tables["r0"]) for tables in motion.tables], [1, 41, 1, 41, 1])
@@ -231,6 +264,34 @@ class PacketTests(unittest.TestCase):
             ports = [rule["out"] for rule in plan["rules"] if rule["switch"] == switch]
             self.assertEqual(sorted(ports), sorted([*range(1, 32)] * 2))
 
+    def test_ports_lie_apart(self):
+        files = values(workloads.parallel_links(2, 62, 512))
+        ends = [end for link in files["topology"]["links"] for end in link] + files["topology"]["hosts"]
+        self.assertEqual({int(end.split(":")[1]) % 512 for end in ends}, {0})
+        self.assertEqual(len(set(ends)), len(ends))
+
+    def test_prefixes_side_by_side_have_other_chains(self):
+        demands = values(workloads.line_of_chains(CHECK, 20))["policy"]["demands"]
+        chains = [demand["through"] for demand in demands]
+        self.assertTrue(all(one != other for one, other in itertools.pairwise(chains)))
+        self.assertEqual((len(chains), len({tuple(it) for it in chains}), {len(it) for it in chains}), (20, 8, {16}))
+
+    def test_packets_leave_a_line_at_its_other_end(self):
+        plan = {"kind": "ordered", "rules": [], "rounds": []}
+        motion = model.Update(**values(workloads.turned_line([], 4)), plan=plan)
+        entry, address = ("r1", 1, model.UNTAGGED), int(ipaddress.ip_address("10.0.0.0"))
+        ways = [
+            [stop[0] for stop in model.path(motion.network, tables, entry, address)[0]]
+            for tables in (motion.old, motion.new)
+        ]
+        self.assertEqual(ways, [["r1", "r2", "r3"], ["r1", "r0"]])
+
+    def test_no_packet_comes_to_the_switches_of_far_rounds(self):
+        files = values(workloads.far_rounds(2))
+        self.assertEqual(files["topology"]["links"], [])
+        self.assertEqual({host.split(":")[0] for host in files["topology"]["hosts"]}, {"s0"})
+        self.assertNotIn("s0", {rule["switch"] for rule in files["plan"]["rules"]})
+
     def test_packets_go_round_a_ring_either_way(self):
         motion = carried_out(workloads.either_way(5, 4))
         entry, address = ("r0", 10, model.UNTAGGED), int(ipaddress.ip_address("10.0.0.0"))
@@ -267,6 +328,12 @@ class AnswerTests(unittest.TestCase):
             (workloads.toggled_rules(4, KINDS), "accepted: ordered, 4 rounds, 4 classes\n"),
             (workloads.grown_table(4, KINDS), "accepted: ordered, 6 rounds, 4 classes\n"),
             (workloads.grown_table(4, workloads.ranked_rules(40, 1)), "accepted: ordered, 6 rounds, 6 classes\n"),
+            (workloads.replaced_in_turns(5, 3, 40), "accepted: ordered, 7 rounds, 6 classes\n"),
+            (workloads.inserted_above(4, 4, 40), "accepted: ordered, 6 rounds, 6 classes\n"),
+            (workloads.far_rounds(2), "accepted: ordered, 2 rounds, 8192 classes\n"),
+            (workloads.parallel_links(2, 62, 512), "accepted: ordered, 2 rounds, 7998 classes\n"),
+            (workloads.recorded_changes(2, 40), "settled 2 of 2\n"),
+            (workloads.single_addresses(40), "holds: 160 classes\n"),
             (workloads.clashing_round(40), "refused: 3 Ambiguous round 1 switch r0\n"),
             (workloads.repeating_round(40), "refused: 2 BadChange round 1 switch r0 change 39\n"),
             (workloads.replaced_together(2), "accepted: ordered, 2 rounds, 8192 classes\n"),

@@ -17,6 +17,8 @@ PLAN = ["plan", "topology.json", "old.json", "new.json", "policy.json"]
 PACK = ["pack", *PLAN[1:]]
 CHECK = ["check", "topology.json", "old.json", "new.json", "policy.json", "plan.json"]
 EXPLAIN = ["explain", *CHECK[1:]]
+CERTIFY = ["certify", *CHECK[1:]]
+REPLAY = ["replay", "topology.json", "old.json", "plan.json", "schedule.json"]
 # Runs with a hundred packets, whose events are named by 1.
 SIMULATE = ["simulate", *CHECK[1:], "1", "100"]
 # The greatest size of a topology and of a configuration, in bytes.
@@ -182,14 +184,24 @@ def routing_table(words: Sequence[str], count: int) -> Workload:
     )
 
 
-def rekeyed_rules(count: int) -> Workload:
-    """Rules of one switch that all give way to rules of other priorities: twice as many changes."""
+def single_addresses(count: int) -> Workload:
+    """A table of one switch with a rule for each of so many single addresses, which lie 2^21 apart."""
+    topology = {**one_switch(["untagged"]), "hosts": ["s0:1", "s0:2"]}
+    rules = [
+        {"switch": "s0", "priority": 100, "dst": f"{ipaddress.ip_address(i << 21)}/32", "out": 1} for i in range(count)
+    ]
+    return Workload(CONFIG, topology=topology, config={"rules": rules})
+
+
+def rekeyed_rules(words: Sequence[str], count: int) -> Workload:
+    """Rules of one switch that all give way to rules of other priorities: twice as many changes. All are for one
+    prefix."""
     topology = {**one_switch(["untagged"]), "hosts": ["s0:1", "s0:2"]}
     rules = [
         [{"switch": "s0", "priority": first + i, "dst": "10.0.0.0/24", "out": out} for i in range(count)]
         for first, out in ((1, 1), (3001, 2))
     ]
-    return updating(PLAN, topology, {"rules": rules[0]}, {"rules": rules[1]}, {"demands": []})
+    return updating(words, topology, {"rules": rules[0]}, {"rules": rules[1]}, {"demands": []})
 
 
 def rules_for_all() -> list[dict[str, Any]]:
@@ -273,6 +285,38 @@ def grown_table(rounds: int, rules: Sequence[dict[str, Any]]) -> Workload:
     )
 
 
+def replaced_in_turns(rounds: int, each: int, count: int) -> Workload:
+    """A plan whose first round makes a table of so many rules. Each of the rounds behind it, so many, replaces a few of
+    these, in turns, and the last one takes the table away."""
+    rules = ranked_rules(count, 1)
+    others = [{**rule, "out": 1} for rule in rules]
+    present, texts, at = list(range(count)), [], 0
+    for _ in range(rounds):
+        for i in range(at, at + each):
+            present[i] = (present[i] + count) % (2 * count)
+        texts.append(moves("replace", present[at : at + each]))
+        at = at + each if at + 2 * each <= count else 0
+    return unmet(1, rules + others, [moves("insert", range(count)), *texts, moves("delete", present)])
+
+
+def inserted_above(rounds: int, each: int, count: int) -> Workload:
+    """A plan whose first round makes a table of so many rules. In the rounds between, so many, a few rules above all of
+    these come and go in turns, and the last one takes the table away."""
+    turns = [moves(word, range(count, count + each)) for word in ("insert", "delete")]
+    return unmet(
+        1, ranked_rules(count + each, 1),
+        [moves("insert", range(count)), *(turns[k % 2] for k in range(rounds)), moves("delete", range(count))],
+    )
+
+
+def recorded_changes(rounds: int, count: int) -> Workload:
+    """A schedule of all changes of such rounds, in which so many rules of one switch come and go in turns."""
+    plan = toggled_rules(rounds, ranked_rules(count, 1))
+    events = ["start", *(f"change {i}" for i in range(count)), "settle"]
+    files = {name: plan.files[name] for name in ("topology", "old", "plan")}
+    return Workload(REPLAY, **files, schedule="\n".join(events * rounds) + "\n")
+
+
 def rules_apart(count: int) -> list[dict[str, Any]]:
     """So many rules of one switch, one priority and one prefix, each for an ingress port and a VLAN of its own."""
     return [
@@ -343,17 +387,69 @@ def chains(words: Sequence[str], classes: int) -> Workload:
     return updating(words, topology, {"rules": rules}, {"rules": rules + more}, {"demands": demands})
 
 
-def parallel_links(switches: int, rules: int) -> Workload:
+def line_of_chains(words: Sequence[str], prefixes: int) -> Workload:
+    """A line of 128 switches on which the packets to each of so many prefixes have a chain of 16 waypoints. Prefixes
+    side by side have other chains; there are eight. Of each prefix there are 33 classes."""
+    dice = random.Random(1)
+    some = [sorted(dice.sample(range(128), 16)) for _ in range(8)]
+    topology = {
+        "switches": [{"name": f"r{i}", "capacity": 8192} for i in range(128)],
+        "links": [[f"r{i}:2", f"r{i + 1}:3"] for i in range(127)],
+        "hosts": [*(f"r0:{port}" for port in range(10, 42)), "r127:1"], "vlans": ["untagged"], "tags": [3000, 3000],
+    }
+    rules = [{"switch": f"r{i}", "priority": 100, "dst": "0.0.0.0/0", "out": 2 if i < 127 else 1} for i in range(128)]
+    more = [{"switch": "r64", "priority": 200, "dst": "0.0.0.0/0", "out": 2}]
+    demands = [
+        {"dst": f"0.{i // 256}.{i % 256}.0/24", "through": [f"r{s}" for s in some[i % 8]]} for i in range(prefixes)
+    ]
+    return updating(words, topology, {"rules": rules}, {"rules": rules + more}, {"demands": demands})
+
+
+def turned_line(words: Sequence[str], switches: int) -> Workload:
+    """All packets go along a line of switches, each of which has a host, to its last one, and then to its first one."""
+    last = switches - 1
+    topology = {
+        "switches": [{"name": f"r{i}", "capacity": 64} for i in range(switches)],
+        "links": [[f"r{i}:2", f"r{i + 1}:3"] for i in range(last)], "hosts": [f"r{i}:1" for i in range(switches)],
+        "vlans": ["untagged"], "tags": [3000, 3009],
+    }
+
+    def config(end: int, out: int) -> dict[str, list[dict[str, Any]]]:
+        ports = [1 if i == end else out for i in range(switches)]
+        return {
+            "rules": [{"switch": f"r{i}", "priority": 100, "dst": "10.0.0.0/24", "out": p} for i, p in enumerate(ports)]
+        }
+
+    return updating(words, topology, config(last, 2), config(0, 3), {"demands": []})
+
+
+def far_rounds(rounds: int) -> Workload:
+    """Rounds of 127 changes at switches to which no packet comes, beside one with 8192 classes."""
+    here = one_switch(list(range(1, 17)))
+    topology = {**here, "switches": [*here["switches"], *({"name": f"r{i}", "capacity": 64} for i in range(127))]}
+    rules = [{"switch": f"r{i}", "priority": 100, "dst": "0.0.0.0/0", "out": "drop"} for i in range(127)]
+    turns = [moves(word, range(127)) for word in ("insert", "delete")]
+    plan = plan_text(rules, [turns[k % 2] for k in range(rounds)], 8192, [0] * 128)
+    config = {"rules": rules_for_all()}
+    policy = {"demands": [{"dst": f"0.0.0.{i}/32"} for i in range(7)]}
+    return Workload(CHECK, topology=topology, old=config, new=config, policy=policy, plan=plan)
+
+
+def parallel_links(switches: int, rules: int, apart: int = 1) -> Workload:
     """A line of switches with 31 links each to the next, and so many rules at each that send over them; in the one
-    round a packet may meet any. From 31 hosts come about 8000 classes."""
+    round a packet may meet any. From 31 hosts come about 8000 classes. The numbers of ports lie so far apart."""
     names = [f"r{i}" for i in range(switches + 1)]
-    links = [[f"{names[i]}:{1 + p}", f"{names[i + 1]}:{32 + p}"] for i in range(switches) for p in range(31)]
+    links = [
+        [f"{names[i]}:{apart * (1 + p)}", f"{names[i + 1]}:{apart * (32 + p)}"]
+        for i in range(switches)
+        for p in range(31)
+    ]
     topology = {
         "switches": [{"name": name, "capacity": max(64, rules)} for name in names], "links": links,
-        "hosts": [f"r0:{32 + p}" for p in range(31)], "vlans": ["untagged"], "tags": [3000, 3000],
+        "hosts": [f"r0:{apart * (32 + p)}" for p in range(31)], "vlans": ["untagged"], "tags": [3000, 3000],
     }
     sending = [
-        {"switch": names[i], "priority": 1 + p, "dst": "10.0.0.0/24", "out": 1 + p % 31}
+        {"switch": names[i], "priority": 1 + p, "dst": "10.0.0.0/24", "out": apart * (1 + p % 31)}
         for i in range(switches)
         for p in range(rules)
     ]
@@ -450,7 +546,9 @@ WORKLOADS = {
     "check-routes": ("check, 2040 prefixes of 25 lengths, all replaced", lambda: routing_table(CHECK, 2040)),
     "plan-routes": ("plan of that update", lambda: routing_table(PLAN, 2040)),
     "pack-routes": ("pack of that update", lambda: routing_table(PACK, 2040)),
-    "plan-rekeyed": ("plan, 2047 rules of one switch, each with another priority", lambda: rekeyed_rules(2047)),
+    "config-single": ("config, 2048 single addresses at one switch", lambda: single_addresses(2048)),
+    "plan-rekeyed": ("plan, 2047 rules of one prefix, each with another priority", lambda: rekeyed_rules(PLAN, 2047)),
+    "check-rekeyed": ("check of that plan", lambda: rekeyed_rules(CHECK, 2047)),
     "pack-ring": ("pack, ring of 128 switches", lambda: turned_ring(PACK, 128, 4)),
     "pack-rules": ("pack, ring of 128 switches with 2048 rules", lambda: turned_ring(PACK, 128, 16)),
     "pack-replaced": (
@@ -490,14 +588,32 @@ WORKLOADS = {
         "check, refused: 128,000 inserts in one round, of which the last two name one key",
         lambda: repeating_round(128_000),
     ),
+    "check-few-replaced": (
+        "check, 8000 rules at one switch, 4198 rounds that replace 17", lambda: replaced_in_turns(4198, 17, 8000),
+    ),
+    "check-few-above": (
+        "check, 8000 rules at one switch, 4198 rounds of 4 changes above them", lambda: inserted_above(4198, 4, 8000),
+    ),
+    "check-far": ("check, 4200 rounds of 127 changes that no packet meets, 8192 classes", lambda: far_rounds(4200)),
+    "replay-long-table": ("replay, 245,700 changes at one switch with 8190 rules", lambda: recorded_changes(30, 8190)),
     "check-idle": ("check, 4200 rounds of one change over 7900 classes", lambda: idle_rounds(4200)),
     "check-chains": ("check, 8184 classes with 512 chains", lambda: chains(CHECK, 8184)),
     "explain-chains": ("explain, 8184 classes with 512 chains", lambda: chains(EXPLAIN, 8184)),
     "plan-chains": ("plan, 1056 classes with 512 chains", lambda: chains(PLAN, 1056)),
+    "check-other-chains": (
+        "check, 8184 classes with 8 chains, other ones side by side", lambda: line_of_chains(CHECK, 247),
+    ),
+    "plan-other-chains": ("plan of that update", lambda: line_of_chains(PLAN, 247)),
+    "certify-other-chains": ("certify of that plan", lambda: line_of_chains(CERTIFY, 247)),
+    "pack-other-chains": ("pack of that update", lambda: line_of_chains(PACK, 247)),
+    "pack-line": ("pack, line of 128 switches that turns", lambda: turned_line(PACK, 128)),
     "check-parallel": ("check, 31 parallel links between 16 switches, 8000 classes", lambda: parallel_links(16, 31)),
     "check-parallel-wide": (
         "check, 500 rules a switch over 31 parallel links between 16 switches, 8000 classes",
         lambda: parallel_links(16, 500),
+    ),
+    "check-parallel-apart": (
+        "check, the same with numbers of ports that lie 512 apart", lambda: parallel_links(16, 500, 512),
     ),
     "simulate-ring": ("simulate, ring of 128 switches (508 rounds)", lambda: turned_ring(SIMULATE, 128, 4)),
     "simulate-round": (

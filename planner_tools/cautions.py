@@ -10,7 +10,7 @@ import os
 from planner_tools import network as nets
 from planner_tools import program
 from planner_tools.files import NotJson, did_you_mean, member_path, nearest, read_json
-from planner_tools.members import MEMBERS, OF_OTHERS
+from planner_tools.members import MEMBERS, OF_OTHERS, UNSAYABLE
 
 TYPE_CHECKING = False
 if TYPE_CHECKING:
@@ -111,10 +111,10 @@ def member_cautions(kind: str, file: Given) -> list[Caution]:
                 " in the right order?"
             )
         ]
-    look_at_members(text, text.root, (), MEMBERS[kind], found)
+    look_at_members(text, text.root, (), kind, found)
     for list_name, inner in INNER[kind].items():
         for way, item in objects_in(text.root.member(list_name), (list_name,)):
-            look_at_members(text, item, way, MEMBERS[inner], found)
+            look_at_members(text, item, way, inner, found)
     return found
 
 
@@ -185,11 +185,13 @@ def is_remark(name: str) -> bool:
 
 
 def look_at_members(
-    text: Json, item: Value, way: Sequence[int | str], known: Sequence[str], found: list[Caution]
+    text: Json, item: Value, way: Sequence[int | str], of: str, found: list[Caution]
 ) -> None:
+    """Adds what is to be said of the members of an object of the kind `of`."""
+    known = MEMBERS[of]
     seen: dict[str, int] = {}
     for name, at, value in item.held if item.kind == "object" else []:
-        if is_remark(name):
+        if is_remark(name) or (of, name, text.shown(value)) == ("topology", "format", "1"):
             continue
         path, kind = member_path((*way, name)), (text.path, way[:1], name)
         if name in seen:
@@ -201,18 +203,23 @@ def look_at_members(
                 )
             )
         elif name not in known:
-            here = [one for one, _, _ in item.held]
-            guess = nearest(name, [one for one in known if one not in here]) or nearest(name, known)
             found.append(
                 Caution(
-                    (
-                        f"{text.where(at)}: {path} counts for nothing: no member has this"
-                        f" name{f'; did you mean `{guess}`?' if guess else ''}"
-                    ),
+                    f"{text.where(at)}: {path} counts for nothing: {why_nothing(item, name, of)}",
                     [f"the members are {', '.join(f'`{one}`' for one in known)}"], kind=("unknown", *kind), place=path,
                 )
             )
         seen.setdefault(name, at)
+
+
+def why_nothing(item: Value, name: str, of: str) -> str:
+    """Why a member of an object of the kind `of` counts for nothing."""
+    without = UNSAYABLE.get(of, {}).get(name)
+    if without:
+        return f"this version can't say it, {without}"
+    here, known = [one for one, _, _ in item.held], MEMBERS[of]
+    guess = nearest(name, [one for one in known if one not in here]) or nearest(name, known)
+    return f"no member has this name{f'; did you mean `{guess}`?' if guess else ''}"
 
 
 # ---- what the demands cover, and what the rules serve

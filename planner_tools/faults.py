@@ -526,8 +526,11 @@ class Policy(Checks):
             yield from [bad] if bad else []
 
     def source(self, item: Value, way: Sequence[int | str], number: int, known: Sequence[str]) -> Iterator[Fault]:
-        bad = self.of_kind(item, way, number, "from", ["text"], f"a host port, or `any`: {PORT_WORDS}", known, True)
         value = item.member("from")
+        is_list = value is not None and value.kind == "list"
+        several = "; of several ports each has a demand of its own" if is_list else ""
+        right = f"a host port, or `any`: {PORT_WORDS}{several}"
+        bad = self.of_kind(item, way, number, "from", ["text"], right, known, True)
         if bad or value is None or value.held == "any":
             yield from [bad] if bad else []
             return
@@ -563,8 +566,10 @@ class Policy(Checks):
         way = (*way, "through")
         for at, one in enumerate(value.held):
             if one.kind != "text":
+                of_several = ": a waypoint is one switch, and can't be one of several" if one.kind == "list" else ""
                 yield Fault(
-                    "Shape", "through", number, (*way, at), f"it is {KIND_WORDS[one.kind]}", "the name of a switch"
+                    "Shape", "through", number, (*way, at), f"it is {KIND_WORDS[one.kind]}",
+                    f"the name of a switch{of_several}",
                 )
         if len(value.held) > 16:
             yield Fault("TooMany", "through", number, way, f"it has {len(value.held)} names", "at most 16 names")

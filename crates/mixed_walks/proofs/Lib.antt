@@ -1,3 +1,4 @@
+pub mod ChainLaws
 pub mod MarkedLaws
 pub mod NotedLaws
 pub mod PlaceLaws

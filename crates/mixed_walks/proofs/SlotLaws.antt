@@ -22,6 +22,10 @@ all_alike n x m =
 none_below : {n : ℕ} → n ≡ 0 → ¬ (0 < n)
 none_below e lt = absurd (omega arith)
 
+-- each slot of empty ones is empty
+pub empty_slot : (bound : ℕ) (slots : List ℕ) → slots ≡ replicate bound 0 → (n : ℕ) → get_or slots n 0 ≡ 0
+empty_slot bound slots e n = ap (λ xs. get_or xs n 0) e ∙ all_alike {A = ℕ} bound 0 n
+
 -- no places, and empty slots
 pub places_none : (bound capacity : ℕ) (slots : List ℕ) (switches : List SwitchId) → 8193 ≤ capacity → slots ≡ replicate bound 0 → switches ≡ [] → IsPlaceList bound [] capacity slots switches
 places_none bound capacity slots switches room e none = record {
@@ -34,7 +38,7 @@ places_none bound capacity slots switches room e none = record {
 }
   where
     empty : (n : ℕ) → get_or slots n 0 ≡ 0
-    empty n = ap (λ xs. get_or xs n 0) e ∙ all_alike {A = ℕ} bound 0 n
+    empty n = empty_slot bound slots e n
 
 -- the slots of the places are emptied
 abbrev pub AreEmptied : List ℕ → List Place → List ℕ → Type 0
@@ -115,6 +119,14 @@ module _ (bound : ℕ) (places : List Place) (capacity : ℕ) (slots : List ℕ)
                   λ lt. in_append_left n (map slot_number places) (slot_number place ∷ []) ((is.marked n).1 (subst (λ m. 0 < m) other lt)),
                 ))
           ]
+
+  -- where the slots of all were emptied, each is empty
+  pub emptied_slot : (left : List ℕ) → AreEmptied slots places left → (n : ℕ) → get_or left n 0 ≡ 0
+  emptied_slot left emptied n =
+      elim (cases_lt 0 (get_or left n 0)) [
+        | inl lt ↦ absurd (let (was, out) = emptied n lt in out ((is.marked n).1 was))
+        | inr ge ↦ omega arith
+      ]
 
   -- no places, where the slots of all were emptied
   pub places_cleared : (more : ℕ) (left : List ℕ) (none : List SwitchId) → capacity ≤ more → length left ≡ length slots → AreEmptied slots places left → none ≡ []

@@ -1,3 +1,4 @@
+pub mod Chained
 pub mod Walks
 pub mod Walking
 pub mod Marked

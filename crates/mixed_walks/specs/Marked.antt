@@ -30,7 +30,7 @@ edge_number e = e.from.0 * most_switches + e.to.0
 abbrev pub IsNear : Edge → Type 0
 IsNear e = (e.from.0 < most_switches) × (e.to.0 < most_switches)
 
--- the number of the slot of a place, at one of 128 switches
+-- the number of the slot of a place, at one of 128 switches: places share one only at one switch, with ports that are equal modulo 512
 abbrev pub slot_number : Place → ℕ
 slot_number p = p.switch.0 * 512 + p.port.0 % 512
 

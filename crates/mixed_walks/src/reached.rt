@@ -13,24 +13,29 @@ use std::alloc::Global;
 use std::marker::Model;
 
 /// Places, each once, in the order in which they were put. Each slot has the number, from 1, of the place that was put
-/// last of those that share it, 0 where none was.
+/// last of those that share it, 0 where none was; and for each place there is the number of the one that was put into its
+/// slot before it, 0 where none was.
 #[derive(Drop)]
 pub(crate) struct ReachedPlaces {
     places: Vec<Place>,
     slots: Vec<u16>,
+    before: Vec<u16>,
     switches: WalkedSwitches,
 }
 
 impl Model for ReachedPlaces {
-    ghost use Rattle.std.specs.Prelude.{List, vec_capacity};
+    ghost use Rattle.std.specs.Prelude.{List, map, vec_capacity, ◌≤◌};
     ghost use Rattle.net_base.specs.declared.ids.Place.{Place};
-    ghost use Rattle.mixed_walks.specs.Marked.{IsPlaceList};
+    ghost use Rattle.mixed_walks.specs.Marked.{IsPlaceList, slot_number};
+    ghost use Rattle.mixed_walks.specs.Chained.{IsChained};
 
     ghost Value = { List Place };
 
     ghost view = { λ a. a.places.items };
 
-    ghost invariant = { λ a. IsPlaceList 65536 a.places.items (vec_capacity a.places) a.slots.items a.switches };
+    ghost invariant = { λ a. IsPlaceList 65536 a.places.items (vec_capacity a.places) a.slots.items a.switches
+        × IsChained (map slot_number a.places.items) a.slots.items a.before.items
+        × (8193 ≤ vec_capacity a.before) };
 }
 
 /// Whether two places are the same.
@@ -38,18 +43,6 @@ fn is_same(a: Place, b: Place) -> bool
     ensures { IsTrue result ↔ (a ≡ b) }
 {
     a == b
-}
-
-/// Whether the place is one of these.
-fn is_among(places: &[Place], place: Place) -> bool
-    ensures { IsTrue result ↔ IsIn place places.now }
-{
-    for other in places {
-        if is_same(place, *other) {
-            return true;
-        }
-    }
-    false
 }
 
 /// The slot of a place. Places share one only where their switch is the same, and their ports are equal modulo 512.
@@ -82,6 +75,7 @@ impl ReachedPlaces {
         Ok(ReachedPlaces {
             places: Vec::with_capacity(alloc, 8193)?,
             slots: vec![in alloc; 0; 65536]?,
+            before: Vec::with_capacity(alloc, 8193)?,
             switches: WalkedSwitches::make(alloc)?,
         })
     }
@@ -109,17 +103,20 @@ impl ReachedPlaces {
         self.switches.list()
     }
 
-    /// Whether the place stands there. It looks at one place, or none, but where another was put into its slot: then it
-    /// may look at all of them, as at a switch whose ports are multiples of 512.
+    /// Whether the place stands there. It looks at those alone that share its slot: at one switch, with other VLANs, or with
+    /// ports that are equal modulo 512.
     fn has(&self, place: Place) -> bool
         requires { place.switch.0 < most_switches }
         ensures { IsTrue result ↔ IsIn place self.now }
     {
-        let last = self.slots[slot_number(&place)] as usize;
-        if last == 0 {
-            return false;
+        let mut number = self.slots[slot_number(&place)] as usize;
+        'passing: while number > 0 {
+            if is_same(place, self.places[number - 1]) {
+                return true;
+            }
+            number = self.before[number - 1] as usize;
         }
-        is_same(place, self.places[last - 1]) || is_among(&self.places, place)
+        false
     }
 
     /// Puts a place, if it doesn't stand there.
@@ -131,7 +128,9 @@ impl ReachedPlaces {
         ensures once { IsDistinct self.new }
     {
         if !self.has(place) {
-            self.slots[slot_number(&place)] = self.places.len() as u16 + 1;
+            let slot = slot_number(&place);
+            self.before.push_reserved(self.slots[slot]);
+            self.slots[slot] = self.places.len() as u16 + 1;
             self.switches.put(place.switch);
             self.places.push_reserved(place);
         }
@@ -143,6 +142,7 @@ impl ReachedPlaces {
     {
         empty_slots(&self.places, &mut self.slots);
         self.places.clear();
+        self.before.clear();
         self.switches.clear();
     }
 }

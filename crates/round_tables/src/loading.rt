@@ -148,8 +148,16 @@ fn load_into(
     Ok(())
 }
 
-/// So many changes of a switch are marked one after the other at most. More are faster sorted with its table anew.
+/// So many changes of a switch are marked one after the other in any case, ...
 const MOST_MARKED: usize = 16;
+
+/// ... and more of them if its table has so many times as many rules. Others are faster sorted with the table anew.
+const RULES_FOR_MARK: usize = 64;
+
+/// How many changes of a switch are marked one after the other at most. Only the speed rests on it.
+fn most_marked(table: &Table) -> usize {
+    MOST_MARKED.max(table.rules().len() / RULES_FOR_MARK)
+}
 
 /// Prepares one of the switches, which is prepared for its table alone, for its changes, where they are few and good and
 /// their mixtures clear: so it needs no sorting.
@@ -164,7 +172,7 @@ fn begin_few(mixes: &mut [Mixed], switch: SwitchId, table: &Table, changes: &[Ch
     keeps_keys(table);
     match changes {
         [] => true,
-        _ => changes.len() <= MOST_MARKED && begin_all_at(mixes, switch, changes),
+        _ => changes.len() <= most_marked(table) && begin_all_at(mixes, switch, changes),
     }
 }
 
@@ -194,7 +202,7 @@ fn load_at(
     if !touched[i] && begin_few(mixes, switch, table, changes) {
         return Ok(());
     }
-    touched[i] = changes.len() > MOST_MARKED;
+    touched[i] = changes.len() > most_marked(table);
     load_into(mixes, switch, table, changes)
 }
 
@@ -266,7 +274,8 @@ fn load_all(
 
 impl PreparedTables {
     /// Prepares each switch for round k, or finds the first bad change, or else the first unclear switch. A switch is
-    /// sorted only where this round or the one before changes it more than 16 times, or the round is refused.
+    /// sorted only where this round or the one before changes it more than 16 times and more than once for 64 of its rules,
+    /// or the round is refused.
     pub fn load_round(&mut self, update: &Rollout<'_>, k: usize) -> Result<(), RoundFault>
         requires round { k < length update.now.rounds }
         requires room { HoldsRounds (length update.now.old) update.now.rounds self.old }
