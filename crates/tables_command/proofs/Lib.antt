@@ -1,3 +1,10 @@
 pub mod ListedLaws
+pub mod Sound
+pub mod ReadAgain
+pub mod Spelled
+pub mod StateRanges
+pub mod PlacedLaws
+pub mod ReadBackLaws
+pub mod BothWaysLaws
 pub mod TabledLaws
 pub mod TurnsNothingLaws

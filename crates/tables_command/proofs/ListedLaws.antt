@@ -52,13 +52,13 @@ flagged_push (x ∷ cs) [] c on e = absurd (omega arith)
 flagged_push (x ∷ cs) (true ∷ flags) c on e = ap (λ l. x ∷ l) (flagged_push cs flags c on (omega arith))
 flagged_push (x ∷ cs) (false ∷ flags) c on e = flagged_push cs flags c on (omega arith)
 
-inverse_length : (tables : List (List Rule)) (round : List Change) → length (inverse_round tables round) ≡ length round
+pub inverse_length : (tables : List (List Rule)) (round : List Change) → length (inverse_round tables round) ≡ length round
 inverse_length tables [] = refl
 inverse_length tables (c ∷ round) =
     length-append (inverse_round tables round) (inverse_of (rules_at tables (switch_of c)) c ∷ []) ∙ omega (arith, inverse_length tables round)
 
 -- the flagged ones of the inverse of a round, with one change of the round more
-inverse_more : (tables : List (List Rule)) (c : Change) (round : List Change) (on : Bool) (flags : List Bool) → length flags ≡ length round
+pub inverse_more : (tables : List (List Rule)) (c : Change) (round : List Change) (on : Bool) (flags : List Bool) → length flags ≡ length round
     → flagged_changes (inverse_round tables (c ∷ round)) (reverse (on ∷ flags))
     ≡ flagged_changes (inverse_round tables round) (reverse flags) ++ cond on (inverse_of (rules_at tables (switch_of c)) c ∷ []) []
 inverse_more tables c round on flags e =

@@ -25,7 +25,8 @@ use Rattle.command_base.proofs.MeaningLaws.{MeansOnly, means_then, means_parts, 
 use Rattle.command_base.proofs.AnswerLaws.{SaysOfFiles, says_of_files, meant, wrote, status_of, text_of}
 use Rattle.replay_command.specs.Names.{ReplayNames}
 use Rattle.replay_command.specs.Replayed.{schedule_words, not_a_run_line}
-use Rattle.tables_command.specs.Listed.{tables_of, IsTablesAnswer}
+use Rattle.tables_command.specs.Listed.{tables_of, IsReadAsLast, IsTablesAnswer}
+use Rattle.tables_command.specs.Promise.{WritesTables}
 use Rattle.tables_command.specs.Tabled.{TablesMeaning, tables_dialogue, tables_rollout, begin_course, SaysOfCourse, SaysNoCourse, FirstStopsAtStep, FilesMeanTables, FilesAreACourse, FilesAreNoCourse, NamesFirstStep}
 
 -- the dialogue means what the files mean, and nothing else
@@ -69,19 +70,23 @@ stops_no_course m number at run =
 -- what is said of a schedule, by the status
 module _ (m : TablesMeaning) (answer : Answer) where
   done_says : IsTablesAnswer m answer → answer.status ≡ status.Done → SaysOfCourse tables_of m answer
-  done_says (inl v) is = v
+  done_says (inl v) is = v.says
   done_says (inr v) is = absurd (let e = status_of answer _ _ v.answer_is in cc)
 
+  done_reads : IsTablesAnswer m answer → answer.status ≡ status.Done → IsReadAsLast m (tables_of m)
+  done_reads (inl v) is = v.read_back
+  done_reads (inr v) is = absurd (let e = status_of answer _ _ v.answer_is in cc)
+
   stop_says : IsTablesAnswer m answer → answer.status ≡ status.NotARun → SaysNoCourse m answer
-  stop_says (inl v) is = absurd (let e = status_of answer _ _ v.answer_is in cc)
+  stop_says (inl v) is = absurd (let e = status_of answer _ _ v.says.answer_is in cc)
   stop_says (inr v) is = v
 
   run_says : IsTablesAnswer m answer → IsCourse (tables_rollout m) (steps_of m.schedule) → SaysOfCourse tables_of m answer
-  run_says (inl v) run = v
+  run_says (inl v) run = v.says
   run_says (inr v) run = absurd (stops_no_course m v.line v.first run)
 
   no_run_says : IsTablesAnswer m answer → ¬ IsCourse (tables_rollout m) (steps_of m.schedule) → SaysNoCourse m answer
-  no_run_says (inl v) none = absurd (none v.run)
+  no_run_says (inl v) none = absurd (none v.says.run)
   no_run_says (inr v) none = v
 
 -- the line of a step that isn't enabled, where it is written
@@ -117,6 +122,9 @@ module _ (files : Files) (names : ReplayNames) (old new : Option (List ℕ)) (re
 
     pub written_of : result ≡ status.Done → Appends old new (tables_of m)
     written_of is = wrote run (tables_of m) (text_of a.answer _ _ (done_run is).answer_is)
+
+    pub reads_of : result ≡ status.Done → WritesTables m old new
+    reads_of is = record { text = tables_of m; read_back = done_reads m a.answer (run.said m mean) (a.status_is ∙ is); written = written_of is }
 
     pub line_of : (is : result ≡ status.NotARun) → Appends old new (not_a_run_line (stopped is).line)
     line_of is = wrote run _ (text_of a.answer _ _ (stopped is).answer_is)

@@ -1,3 +1,5 @@
 pub mod Tabled
+pub mod ReadBack
 pub mod Listed
+pub mod BothWays
 pub mod Promise

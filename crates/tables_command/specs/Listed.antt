@@ -12,6 +12,7 @@ use Rattle.plan_format.specs.declared.rules.PlanRule.{PlanRule}
 use Rattle.plan_text.specs.TablesText.{tables_text}
 use Rattle.command_base.specs.Answers.{Answer}
 use Rattle.tables_command.specs.Tabled.{TablesMeaning, tables_rollout, end_course, SaysOfCourse, SaysNoCourse}
+use Rattle.tables_command.specs.ReadBack.{IsReadAsTables}
 
 -- a rule at its switch
 abbrev pub placed_rule : SwitchId → Rule → PlanRule
@@ -56,9 +57,18 @@ pending_in u c = pending_inverses u c ++ unmade_changes u c
 abbrev pub tables_of : TablesMeaning → List ℕ
 tables_of m = tables_text m.net (placed_rules (end_course m).state.tables) (pending_in (tables_rollout m) (end_course m))
 
+-- the text means the tables of the last state and its pending changes, by the words of those who read plans
+abbrev pub IsReadAsLast : TablesMeaning → List ℕ → Type 0
+IsReadAsLast m text = IsReadAsTables m.net (end_course m).state.tables (pending_in (tables_rollout m) (end_course m)) text
+
+-- the steps are a course of the update, and the answer is the text of its last state, which is read back
+pub record SaysTables (m : TablesMeaning) (answer : Answer) : Type 0 where
+  pub says : SaysOfCourse tables_of m answer
+  pub read_back : IsReadAsLast m (tables_of m)
+
 -- the answer of `tables`
 abbrev pub IsTablesAnswer : TablesMeaning → Answer → Type 0
-IsTablesAnswer m answer = SaysOfCourse tables_of m answer ⊎ SaysNoCourse m answer
+IsTablesAnswer m answer = SaysTables m answer ⊎ SaysNoCourse m answer
 
 -- the changes of the running round that aren't made yet, in the order of the round; none where no round is running
 abbrev pub pending_changes : WorldState → List Change

@@ -6,7 +6,7 @@ ghost use Rattle.path_walk.specs.UserConfigs.{IsUserConfig};
 ghost use Rattle.certificates.specs.Valid.{IsValidPlan};
 ghost use Rattle.plan_text.specs.TablesText.{tables_text};
 ghost use Rattle.command_base.specs.Replies.{answer_of};
-ghost use Rattle.tables_command.specs.Listed.{placed_rules, pending_in, IsTablesAnswer};
+ghost use Rattle.tables_command.specs.Listed.{placed_rules, pending_in, tables_of, IsReadAsLast, IsTablesAnswer};
 ghost use Rattle.tables_command.specs.Tabled.{meaning_of};
 
 use crate::files::TablesFiles;
@@ -31,6 +31,15 @@ fn world_text(alloc: Global, world: &TwoWayWorld<'_>) -> Result<Vec<u8>, Memory>
     tables_text(alloc, world.net(), &rules, &pending)
 }
 
+/// Does nothing: its contract says that the text of the last state is read back.
+fn text_is_read_back(files: &TablesFiles)
+    requires user { IsUserConfig files.now.net (rules_of_all files.now.old) }
+    requires valid { IsValidPlan files.now.net files.now.plan }
+    ensures { IsReadAsLast (meaning_of files.now) (tables_of (meaning_of files.now)) }
+{
+    files.net.keeps_rules();
+}
+
 /// Carries out the steps of the schedule, from the old tables on: the tables at the end, or the line of the first step that isn't
 /// enabled.
 pub fn tables_reply(alloc: Global, files: &TablesFiles) -> Result<Reply, Memory>
@@ -38,6 +47,7 @@ pub fn tables_reply(alloc: Global, files: &TablesFiles) -> Result<Reply, Memory>
     requires valid { IsValidPlan files.now.net files.now.plan }
     ensures { IfOk result (λ r. IsTablesAnswer (meaning_of files.now) (answer_of r)) }
 {
+    text_is_read_back(files);
     let mut world = TwoWayWorld::begin(alloc, &files.net, &files.old, &files.plan.rounds)?;
     match replay_two_way(&mut world, &files.schedule) {
         Ok(()) => Ok(Reply {
