@@ -1,8 +1,9 @@
-use Rattle.std.proofs.Common.{ℕ, sym, ◌∙◌, subst, inl, inr, arith}
+use Rattle.std.proofs.Common.{ℕ, refl, sym, ◌∙◌, subst, inl, inr, arith}
 use Rattle.std.proofs.lemmas.Bool.{cases_eq, false≢true}
 use Rattle.dest_classes.specs.Classes.{IsClass}
 use Rattle.dest_classes.specs.declared.Class.{Class}
 use Rattle.dest_classes.proofs.MapLaws.{number_fits}
+use Rattle.demands.specs.Duties.{ClassDuties}
 use Rattle.certificates.specs.Rounds.{IsSafeByEvidence}
 use Rattle.round_judge.specs.Visits.{marks_at}
 use Rattle.round_judge.proofs.JudgingLaws.{numbered_class}
@@ -14,6 +15,12 @@ numbered-class-requires c =
     let count = c.count-number-end.ensures.count in
     let less = c.loop-number-test.true in
     omega arith
+
+pub loop-number-init : goal.loop-number-init
+loop-number-init c =
+    let to = c.args.goal.now in
+    let d : ClassDuties = record { demands = to.demands; classes = to.classes } in
+    record { count = refl; last = c.none-last.ensures to.net d; kept = λ tables changes prepared n class less is. absurd (omega arith) }
 
 pub loop-number-preserved : goal.loop-number-preserved
 loop-number-preserved c =

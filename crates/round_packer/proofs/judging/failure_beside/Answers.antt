@@ -1,7 +1,14 @@
 use Rattle.std.proofs.Common.{true, [], ◌∷◌, ◌++◌, ◌∙◌, subst}
+use Rattle.demands.specs.Duties.{ClassDuties}
 use Rattle.round_packer.specs.Kept.{AreTold}
 use Rattle.round_packer.proofs.JudgeLaws.{told_both, watched_then, kept_watched}
 use Rattle.round_packer.proofs.judging.failure_beside.Goals as goal
+
+pub classes_failure-requires-clause-last : goal.classes_failure-requires-clause-last
+classes_failure-requires-clause-last c =
+    let to = c.args.goal.now in
+    let d : ClassDuties = record { demands = to.demands; classes = to.classes } in
+    c.none-last.ensures to.net d
 
 pub returns-in-Some-clause-judged : goal.returns-in-Some-clause-judged
 returns-in-Some-clause-judged c = λ tables taken prepared kept.
