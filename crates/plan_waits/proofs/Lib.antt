@@ -1,0 +1,4 @@
+pub mod WaitTurns
+pub mod Searching
+pub mod Standing
+pub mod Reading

@@ -1,0 +1,3 @@
+pub mod WaitsFaults
+pub mod Waits
+pub mod PlanWaits
