@@ -164,7 +164,7 @@ said plan (Some d) waits e =
     let (ws, h, e1) = bind_ok (plan_waits_in plan d) (λ (xs : List ℕ). Ok (Some xs)) waits e in
     subst (SaysWaits plan (Some d)) (ok_is {E = WaitsFault} (Some ws) waits e1) (plan_said plan d ws h)
 
-taken : (plan : Plan) (member : Option Data) (waits : Option (List ℕ)) → SaysWaits plan member waits → waits_of_member plan member ≡ Ok waits
+pub taken : (plan : Plan) (member : Option Data) (waits : Option (List ℕ)) → SaysWaits plan member waits → waits_of_member plan member ≡ Ok waits
 taken plan None waits h = ap (λ (o : Option (List ℕ)). Ok o) (sym h)
 taken plan (Some d) None h = absurd h
 taken plan (Some d) (Some ws) h = let is = plan_taken plan d ws h.0 h.1 in rw is refl

@@ -28,3 +28,8 @@ abbrev pub SaysWaits : Plan → Option Data → Option (List ℕ) → Type 0
 SaysWaits plan None waits = waits ≡ None
 SaysWaits plan (Some d) None = ⊥
 SaysWaits plan (Some d) (Some waits) = IsNumberList d waits × MayHaveWaits plan waits
+
+-- the plan may have these waits, where it has any
+abbrev pub MayHave : Plan → Option (List ℕ) → Type 0
+MayHave plan None = Unit {0}
+MayHave plan (Some waits) = MayHaveWaits plan waits

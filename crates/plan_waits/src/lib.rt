@@ -3,6 +3,8 @@
 
 mod fault;
 mod read;
+mod write;
 
 pub use fault::WaitsFault;
 pub use read::read_waits;
+pub use write::write_plan_with_waits;
