@@ -13,7 +13,7 @@ use Rattle.law_spans.specs.Cuts.{AreWaits}
 use Rattle.plan_waits.specs.declared.fault.WaitsFault.{WaitsFault}
 use Rattle.plan_waits.specs.declared.fault.WaitsFault.TheVariants.{Shape, BadIndex, Memory}
 use Rattle.plan_waits.specs.Waits.{is_later_round, wait_at, wait_list_in, first_astray, unless_astray, plan_waits_in, waits_member, waits_of_member, waits_in}
-use Rattle.plan_waits.specs.PlanWaits.{IsNumberList, MayHaveWaits, SaysWaits}
+use Rattle.plan_waits.specs.PlanWaits.{IsNumberList, MayHaveWaits, SaysWaits, MayHave}
 use Rattle.plan_waits.proofs.Searching.{Ascends}
 use Rattle.plan_waits.proofs.Standing.{stand_at_waits, none_astray}
 
@@ -158,36 +158,36 @@ plan_taken plan d ws numbers may =
     let none = none_astray ws plan.evidence may.picks in
     rw (list, none) refl
 
-said : (plan : Plan) (member : Option Data) (waits : Option (List ℕ)) → waits_of_member plan member ≡ Ok waits → SaysWaits plan member waits
-said plan None waits e = sym (ok_is {E = WaitsFault} None waits e)
+said : (plan : Plan) (member : Option Data) (waits : Option (List ℕ)) → waits_of_member plan member ≡ Ok waits → SaysWaits member waits × MayHave plan waits
+said plan None waits e = let none : None ≡ waits = ok_is {E = WaitsFault} None waits e in (sym none, subst (MayHave plan) none tt)
 said plan (Some d) waits e =
     let (ws, h, e1) = bind_ok (plan_waits_in plan d) (λ (xs : List ℕ). Ok (Some xs)) waits e in
-    subst (SaysWaits plan (Some d)) (ok_is {E = WaitsFault} (Some ws) waits e1) (plan_said plan d ws h)
+    subst (λ w. SaysWaits (Some d) w × MayHave plan w) (ok_is {E = WaitsFault} (Some ws) waits e1) (plan_said plan d ws h)
 
-pub taken : (plan : Plan) (member : Option Data) (waits : Option (List ℕ)) → SaysWaits plan member waits → waits_of_member plan member ≡ Ok waits
-taken plan None waits h = ap (λ (o : Option (List ℕ)). Ok o) (sym h)
-taken plan (Some d) None h = absurd h
-taken plan (Some d) (Some ws) h = let is = plan_taken plan d ws h.0 h.1 in rw is refl
+pub taken : (plan : Plan) (member : Option Data) (waits : Option (List ℕ)) → SaysWaits member waits → MayHave plan waits → waits_of_member plan member ≡ Ok waits
+taken plan None waits h may = ap (λ (o : Option (List ℕ)). Ok o) (sym h)
+taken plan (Some d) None h may = absurd h
+taken plan (Some d) (Some ws) h may = let is = plan_taken plan d ws h may in rw is refl
 
 -- ---- what a reader returned
 
--- the waits that it gives are those of the member
-pub said_if_given : (plan : Plan) (top : Data) (result : Result (Option (List ℕ)) WaitsFault) → Gives Memory (λ w. w) result (waits_in plan top) → IfOk result (SaysWaits plan (waits_member top))
+-- the waits that it gives are what the member says, and the plan may have them
+pub said_if_given : (plan : Plan) (top : Data) (result : Result (Option (List ℕ)) WaitsFault) → Gives Memory (λ w. w) result (waits_in plan top) → IfOk result (SaysWaits (waits_member top)) × IfOk result (MayHave plan)
 unfolding waits_in
 said_if_given plan top (Ok waits) h = said plan (waits_member top) waits h
-said_if_given plan top (Err e) h = tt
+said_if_given plan top (Err e) h = (tt, tt)
 
--- nothing but memory is wanting where the member says waits
-pub given_if_said : (plan : Plan) (top : Data) (result : Result (Option (List ℕ)) WaitsFault) → Gives Memory (λ w. w) result (waits_in plan top) → (waits : Option (List ℕ)) → SaysWaits plan (waits_member top) waits
+-- nothing but memory is wanting where the member says waits that the plan may have
+pub given_if_said : (plan : Plan) (top : Data) (result : Result (Option (List ℕ)) WaitsFault) → Gives Memory (λ w. w) result (waits_in plan top) → (waits : Option (List ℕ)) → SaysWaits (waits_member top) waits → MayHave plan waits
     → IfErr result (λ e. e ≡ Memory)
 unfolding waits_in
-given_if_said plan top (Ok found) h waits says = tt
-given_if_said plan top (Err Memory) h waits says = refl
-given_if_said plan top (Err (Shape place)) h waits says =
-    let read : waits_in plan top ≡ Ok waits = taken plan (waits_member top) waits says in
+given_if_said plan top (Ok found) h waits says may = tt
+given_if_said plan top (Err Memory) h waits says may = refl
+given_if_said plan top (Err (Shape place)) h waits says may =
+    let read : waits_in plan top ≡ Ok waits = taken plan (waits_member top) waits says may in
     let refused : waits_in plan top ≡ Err (Shape place) = h (λ e. cc) in
     absurd cc
-given_if_said plan top (Err (BadIndex place)) h waits says =
-    let read : waits_in plan top ≡ Ok waits = taken plan (waits_member top) waits says in
+given_if_said plan top (Err (BadIndex place)) h waits says may =
+    let read : waits_in plan top ≡ Ok waits = taken plan (waits_member top) waits says may in
     let refused : waits_in plan top ≡ Err (BadIndex place) = h (λ e. cc) in
     absurd cc

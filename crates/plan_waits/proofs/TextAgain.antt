@@ -63,9 +63,9 @@ whole_each (w ∷ ws) = ap (λ (os : List (Option ℕ)). Some w ∷ os) (whole_e
 number_list : (ws : List ℕ) → IsNumberList (numbers_tree ws) ws
 number_list ws = ap (λ (ds : List Data). Some (map whole_in ds)) (list_of-items_of (map whole_tree ws)) ∙ ap (λ (os : List (Option ℕ)). Some os) (whole_each ws)
 
-says : (plan : Plan) (waits : Option (List ℕ)) → MayHave plan waits → SaysWaits plan (option_map numbers_tree waits) waits
-says plan None may = refl
-says plan (Some ws) may = (number_list ws, may)
+says : (waits : Option (List ℕ)) → SaysWaits (option_map numbers_tree waits) waits
+says None = refl
+says (Some ws) = number_list ws
 
 member_is : (net : Network) (rules : List PlanRule) (plan : Plan) (e : Evidence) → plan.evidence ≡ e → (waits : Option (List ℕ)) → waits_member (object (put_waits waits (plan_members net rules plan))) ≡ option_map numbers_tree waits
 member_is net rules plan (Ordered e) is None = rw (ordered_is net rules plan e is) refl
@@ -75,7 +75,7 @@ member_is net rules plan (TwoPhase e) is (Some ws) = rw (two_phase_is net rules 
 
 pub waits_are_again : (net : Network) (plan : Plan) (waits : Option (List ℕ)) → MayHave plan waits → waits_in plan (tree_with_waits net plan waits) ≡ Ok waits
 unfolding waits_in
-waits_are_again net plan waits may = ap (waits_of_member plan) (member_is net (used_rules plan) plan plan.evidence refl waits) ∙ taken plan (option_map numbers_tree waits) waits (says plan waits may)
+waits_are_again net plan waits may = ap (waits_of_member plan) (member_is net (used_rules plan) plan plan.evidence refl waits) ∙ taken plan (option_map numbers_tree waits) waits (says waits) may
 
 -- the waits change nothing of what is read of the plan
 same_plan : (net : Network) (rules : List PlanRule) (plan : Plan) (e : Evidence) → plan.evidence ≡ e → (waits : Option (List ℕ)) → plan_at net (object (put_waits waits (plan_members net rules plan))) ≡ plan_at net (object (plan_members net rules plan))

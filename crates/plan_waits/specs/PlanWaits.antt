@@ -23,11 +23,11 @@ pub record MayHaveWaits (plan : Plan) (waits : List ℕ) : Type 0 where
   pub are_waits : AreWaits waits (length plan.rounds)
   pub picks : PicksAreAtWaits waits plan.evidence
 
--- what the member of a plan says: without it nothing, and otherwise the waits in its list, which the plan may have
-abbrev pub SaysWaits : Plan → Option Data → Option (List ℕ) → Type 0
-SaysWaits plan None waits = waits ≡ None
-SaysWaits plan (Some d) None = ⊥
-SaysWaits plan (Some d) (Some waits) = IsNumberList d waits × MayHaveWaits plan waits
+-- what the member of a plan says: without it nothing, and otherwise the numbers in its list
+abbrev pub SaysWaits : Option Data → Option (List ℕ) → Type 0
+SaysWaits None waits = waits ≡ None
+SaysWaits (Some d) None = ⊥
+SaysWaits (Some d) (Some waits) = IsNumberList d waits
 
 -- the plan may have these waits, where it has any
 abbrev pub MayHave : Plan → Option (List ℕ) → Type 0

@@ -7,7 +7,7 @@ ghost use Rattle.certificates.specs.Valid.{IsChain};
 ghost use Rattle.plan_format.specs.Evidence.{follows};
 ghost use Rattle.plan_waits.specs.declared.fault.WaitsFault.TheVariants.{Memory};
 ghost use Rattle.plan_waits.specs.Waits.{is_later_round, wait_at, wait_list_in, is_astray, first_astray, plan_waits_in, waits_member, waits_in};
-ghost use Rattle.plan_waits.specs.PlanWaits.{SaysWaits};
+ghost use Rattle.plan_waits.specs.PlanWaits.{SaysWaits, MayHave};
 
 use crate::fault::WaitsFault;
 use certificates::{Evidence, IndexList, OrderedPick, Plan};
@@ -167,13 +167,12 @@ pub fn read_waits(
     // The waits, or the first refusal of the table.
     ensures exact { Gives Memory (λ w. w) result
         (waits_in plan.now (data_of tree.now top.now)) }
-    // They are those of the member, and the plan may have them.
-    ensures ok { IfOk result (λ w.
-        SaysWaits plan.now (waits_member (data_of tree.now top.now)) w) }
+    // They are what the member says, and the plan may have them.
+    ensures said { IfOk result (λ w. SaysWaits (waits_member (data_of tree.now top.now)) w) }
+    ensures may { IfOk result (λ w. MayHave plan.now w) }
     // Waits that the member says and the plan may have aren't refused.
-    ensures err { (w : Option (List ℕ))
-        → SaysWaits plan.now (waits_member (data_of tree.now top.now)) w
-        → IfErr result (λ e. e ≡ Memory) }
+    ensures err { (w : Option (List ℕ)) → SaysWaits (waits_member (data_of tree.now top.now)) w
+        → MayHave plan.now w → IfErr result (λ e. e ≡ Memory) }
 {
     read_top(alloc, plan, tree, top)
 }
