@@ -1,10 +1,10 @@
 -- What the reading of waits gives, and what it takes.
-use Rattle.std.proofs.Common.{◌≡◌, ◌≢◌, ℕ, suc, ◌<◌, ◌≤◌, Bool, true, false, List, [], ◌∷◌, ◌++◌, length, map, Option, Some, None, Result, Ok, Err, refl, sym, ap, subst, ◌∙◌, append-nil, append_assoc, arith}
+use Rattle.std.proofs.Common.{◌≡◌, ℕ, suc, ◌≤◌, Bool, true, false, List, [], ◌∷◌, ◌++◌, length, map, Option, Some, None, Result, Ok, Err, refl, sym, ap, subst, ◌∙◌, append-nil, append_assoc}
 use Rattle.std.specs.Prelude.{nat_lt, nat_le, IfOk, IfErr, option_map, ⊤}
 use Rattle.std.specs.List.{AllByRecursion}
 use Rattle.std.proofs.lemmas.Bool.{and_parts, and_from, leb-true, le-leb, ltb-true, lt-ltb}
 use Rattle.serde_json.specs.Data.{Data}
-use Rattle.net_base.specs.Reading.{◌>>=◌, check, need, in_turn, place_of, Gives}
+use Rattle.net_base.specs.Reading.{check, need, in_turn, place_of, Gives}
 use Rattle.net_base.proofs.Turns.{ok_is, bind_ok, in_turn-keeps}
 use Rattle.flat_json.specs.JsonTree.{whole_in, list_in}
 use Rattle.certificates.specs.declared.Plan.{Plan}

@@ -1,5 +1,5 @@
 -- Worked examples: members that are read, and those that are refused.
-use Rattle.std.proofs.Common.{◌≡◌, ℕ, List, [], ◌∷◌, codes, Some, None, Ok, Err, refl}
+use Rattle.std.proofs.Common.{◌≡◌, ℕ, [], ◌∷◌, codes, Some, None, Ok, Err, refl}
 use Rattle.serde_json.specs.Data.{Data, null, string, object, no_members, put}
 use Rattle.net_base.specs.Reading.{in_turn}
 use Rattle.config_files.specs.RuleTrees.{whole_tree, list_tree}

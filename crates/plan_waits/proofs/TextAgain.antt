@@ -1,9 +1,8 @@
 -- Of what is written the same plan and waits are read.
-use Rattle.std.proofs.Common.{◌≡◌, ℕ, ◌-◌, ◌≤◌, ◌++◌, List, [], ◌∷◌, length, map, take, codes, Option, Some, None, option_map, Ok, refl, sym, ap, ◌∙◌}
-use Rattle.serde_json.specs.Data.{Data, object, Members, no_members, member, put}
-use Rattle.serde_json.specs.Find.{get_member}
+use Rattle.std.proofs.Common.{◌≡◌, ℕ, ◌-◌, ◌++◌, List, [], ◌∷◌, length, map, take, codes, Option, Some, None, option_map, Ok, refl, sym, ap, ◌∙◌}
+use Rattle.serde_json.specs.Data.{Data, object, Members, member, put}
 use Rattle.serde_json.specs.Written.{compact_text}
-use Rattle.flat_json.specs.JsonTree.{whole_in, list_in}
+use Rattle.flat_json.specs.JsonTree.{whole_in}
 use Rattle.flat_json.proofs.JsonTree.{list_of-items_of}
 use Rattle.topology.specs.Networks.{Network, IsNetwork}
 use Rattle.config_files.specs.RuleTrees.{whole_tree}
@@ -15,8 +14,7 @@ use Rattle.plan_format.specs.declared.rules.PlanRule.{PlanRule}
 use Rattle.plan_format.specs.Changes.{rules_in, rounds_in}
 use Rattle.plan_format.specs.Evidence.{numberings_in, befores_in, uses_in, picks_in, uses_and_picks_in, labels_in, label_picks_in}
 use Rattle.plan_format.specs.Plans.{spelling_in, ordered_in, two_phase_in, evidence_in, plan_at}
-use Rattle.plan_text.specs.PlanText.{numbers_tree, used_rules, plan_members, plan_tree, plan_text}
-use Rattle.plan_text.specs.Tokens.{ordered_members, two_phase_members}
+use Rattle.plan_text.specs.PlanText.{numbers_tree, used_rules, plan_members, plan_text}
 use Rattle.plan_text.proofs.Order.{ordered_is, two_phase_is}
 use Rattle.plan_text.proofs.PlanAgain.{plan_again}
 use Rattle.plan_waits.specs.Waits.{waits_member, waits_of_member, waits_in}

@@ -1,6 +1,6 @@
 use Rattle.std.proofs.Common.{arith}
 use Rattle.config_files.specs.RuleTrees.{whole_tree}
-use Rattle.plan_text.proofs.Adding.{token_added, item_added, all_added}
+use Rattle.plan_text.proofs.Adding.{token_added, all_added}
 use Rattle.plan_waits.proofs.write.write_numbers.Goals as goal
 
 pub returns : goal.returns
