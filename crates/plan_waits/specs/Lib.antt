@@ -1,0 +1,4 @@
+pub mod WaitsFaults
+pub mod Waits
+pub mod PlanWaits
+pub mod WaitsText
