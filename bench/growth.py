@@ -16,7 +16,6 @@ import sys
 import tempfile
 
 import ratio
-from measure import program_path
 from workloads import (
     CERTIFY, CHECK, CONFIG, PACK, PLAN, SIMULATE, Workload, chains, far_rounds, idle_rounds, inserted_above,
     line_of_chains, one_switch, parallel_links, ranked_rules, recorded_changes, rekeyed_rules, replaced_in_turns,
@@ -86,11 +85,11 @@ KINDS: dict[str, Kind] = {
 }
 
 
-def seconds(workload: Workload, times: int) -> float:
-    """The median of the seconds of its runs."""
+def seconds(program: str, workload: Workload, times: int) -> float:
+    """The median of the seconds of the program's runs."""
     with tempfile.TemporaryDirectory() as folder:
-        ratio.prepare(workload, pathlib.Path(folder), str(program_path))
-        return statistics.median(ratio.timed(str(program_path), workload.words, folder, 600)[0] for _ in range(times))
+        ratio.prepare(workload, pathlib.Path(folder), program)
+        return statistics.median(ratio.timed(program, workload.words, folder, 600)[0] for _ in range(times))
 
 
 def exponent(first: float, second: float) -> str:
@@ -109,11 +108,12 @@ def main() -> int:
     parser.add_argument("-n", type=int, default=3, metavar="TIMES")
     parser.add_argument("names", nargs="*", metavar="NAME")
     args = parser.parse_args()
+    from measure import program_path   # which looks for the program at once
     print("| Work | sizes | seconds | exponent |\n|---|---|---|---|")
     for name, (title, make, first, times) in KINDS.items():
         if args.names and not any(name.startswith(it) for it in args.names):
             continue
-        taken = [seconds(make(first << i), args.n) for i in range(times + 1)]
+        taken = [seconds(str(program_path), make(first << i), args.n) for i in range(times + 1)]
         print(row(title, first, taken), flush=True)
     return 0
 

@@ -1,14 +1,10 @@
 """Tests of how growth is told."""
-import os
 import pathlib
 import sys
 import tempfile
 import unittest
 
 sys.path.insert(0, str(pathlib.Path(__file__).resolve().parent))
-
-# The script looks for the program when it is read: any path will do.
-os.environ.setdefault("PLANNER", "planner")
 
 import growth  # noqa: E402
 from ratio import QUICK  # noqa: E402
