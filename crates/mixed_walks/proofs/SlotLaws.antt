@@ -146,5 +146,5 @@ module _ (bound : ℕ) (places : List Place) (capacity : ℕ) (slots : List ℕ)
 -- the places are at switches with numbers below 128
 pub place_near : (places : List Place) (capacity : ℕ) (slots : List ℕ) (switches : List SwitchId) → IsPlaceList 65536 places capacity slots switches → (p : Place) → IsIn p places → p.switch.0 < most_switches
 place_near places capacity slots switches is p i =
-    let below : p.switch.0 * 512 + p.port.0 % 512 < 65536 = place_below 65536 places capacity slots switches is p i in
+    let below : p.switch.0 * 512 + p.port.0 * 40503 % 65536 / 128 < 65536 = place_below 65536 places capacity slots switches is p i in
     omega arith

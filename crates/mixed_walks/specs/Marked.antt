@@ -1,5 +1,5 @@
 -- Lists in which each member stands once, with a set or with a mark for each that may stand there.
-use Rattle.std.specs.Prelude.{◌≡◌, ◌↔◌, ℕ, ◌+◌, ◌*◌, ◌%◌, ◌<◌, ◌≤◌, Bool, true, false, IsTrue, List, length, map, slice_index_or}
+use Rattle.std.specs.Prelude.{◌≡◌, ◌↔◌, ℕ, ◌+◌, ◌*◌, ◌%◌, ◌/◌, ◌<◌, ◌≤◌, Bool, true, false, IsTrue, List, length, map, slice_index_or}
 use Rattle.std.specs.List.{AllByRecursion}
 use Rattle.net_base.specs.Members.{IsIn, IsDistinct}
 use Rattle.net_base.specs.Switches.{has, most_switches}
@@ -30,9 +30,9 @@ edge_number e = e.from.0 * most_switches + e.to.0
 abbrev pub IsNear : Edge → Type 0
 IsNear e = (e.from.0 < most_switches) × (e.to.0 < most_switches)
 
--- the number of the slot of a place, at one of 128 switches: places share one only at one switch, with ports that are equal modulo 512
+-- the number of the slot of a place, at one of 128 switches: one of 512 of its switch, by a mixed number of its port
 abbrev pub slot_number : Place → ℕ
-slot_number p = p.switch.0 * 512 + p.port.0 % 512
+slot_number p = p.switch.0 * 512 + p.port.0 * 40503 % 65536 / 128
 
 -- each place stands once, the switches are theirs, there is room for 8193, and of so many slots those that have a place, and no others, are not empty:
 -- each holds the number of one of the places, from 1

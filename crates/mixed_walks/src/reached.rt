@@ -45,13 +45,14 @@ fn is_same(a: Place, b: Place) -> bool
     a == b
 }
 
-/// The slot of a place. Places share one only where their switch is the same, and their ports are equal modulo 512.
+/// The slot of a place, one of 512 of its switch. Multiplying by an odd number near 65536 times the golden ratio spreads
+/// ports that differ by a power of two (Knuth, The Art of Computer Programming, volume 3, section 6.4).
 fn slot_number(place: &Place) -> usize
     requires { place.now.switch.0 < most_switches }
     ensures number { result ≡ slot_number place.now }
     ensures within { result < 65536 }
 {
-    place.switch.0 as usize * 512 + place.port.0 as usize % 512
+    place.switch.0 as usize * 512 + place.port.0 as usize * 40503 % 65536 / 128
 }
 
 /// Empties the slots of places.
@@ -104,7 +105,7 @@ impl ReachedPlaces {
     }
 
     /// Whether the place stands there. It looks at those alone that share its slot: at one switch, with other VLANs, or with
-    /// ports that are equal modulo 512.
+    /// ports that the slots mix up.
     fn has(&self, place: Place) -> bool
         requires { place.switch.0 < most_switches }
         ensures { IsTrue result ↔ IsIn place self.now }
