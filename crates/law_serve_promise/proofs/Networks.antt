@@ -189,8 +189,8 @@ tags_keep net more top is e =
 
 -- ---- the file
 
-none_kept : IsNetwork no_network
-none_kept = record {
+none_kept : (wide : Bool) → IsNetwork (no_network wide)
+none_kept wide = record {
   same_count = refl;
   few = omega arith;
   names = tt;

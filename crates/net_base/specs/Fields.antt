@@ -1,7 +1,7 @@
 -- The words of the members of files.
 use Rattle.std.specs.Prelude.{ℕ, List, codes}
 use Rattle.net_base.specs.declared.field.Field.{Field}
-use Rattle.net_base.specs.declared.field.Field.TheVariants.{Top, Switches, Name, Capacity, Links, Hosts, Vlans, Tags, Rules, Switch, Priority, InPort, Vlan, Dst, Out, Demands, From, Through, Deliver, Format, Kind, Rounds, Do, Set, Strip, Numberings, Befores, Labels, Picks, Tried, Uses}
+use Rattle.net_base.specs.declared.field.Field.TheVariants.{Top, Switches, Name, Capacity, Links, Hosts, Vlans, Tags, Fields, Rules, Switch, Priority, InPort, Vlan, Dst, Out, Demands, From, Through, Deliver, To, Deny, Format, Kind, Rounds, Do, Set, Strip, Numberings, Befores, Labels, Picks, Tried, Uses}
 
 -- the member's name, as files and messages spell it
 abbrev pub field_name : Field → List ℕ
@@ -13,6 +13,7 @@ field_name Links = codes "links"
 field_name Hosts = codes "hosts"
 field_name Vlans = codes "vlans"
 field_name Tags = codes "tags"
+field_name Fields = codes "fields"
 field_name Rules = codes "rules"
 field_name Switch = codes "switch"
 field_name Priority = codes "priority"
@@ -24,6 +25,8 @@ field_name Demands = codes "demands"
 field_name From = codes "from"
 field_name Through = codes "through"
 field_name Deliver = codes "deliver"
+field_name To = codes "to"
+field_name Deny = codes "deny"
 field_name Format = codes "format"
 field_name Kind = codes "kind"
 field_name Rounds = codes "rounds"

@@ -1,12 +1,12 @@
 -- A network that is built step by step.
-use Rattle.std.specs.Prelude.{ℕ, List, [], ◌∷◌, ◌++◌, Option, None}
+use Rattle.std.specs.Prelude.{ℕ, Bool, List, [], ◌∷◌, ◌++◌, Option, None}
 use Rattle.net_base.specs.declared.ids.Stop.{Stop}
 use Rattle.net_base.specs.declared.ids.Vlan.{Vlan}
 use Rattle.topology.specs.Networks.{Network, TagRange}
 
--- no switch, link, host port, VLAN or tag
-abbrev pub no_network : Network
-no_network = record { names = []; capacities = []; links = []; hosts = []; vlans = []; tags = None }
+-- no switch, link, host port, VLAN or tag, in a wide network or a narrow one
+abbrev pub no_network : Bool → Network
+no_network wide = record { names = []; capacities = []; links = []; hosts = []; vlans = []; tags = None; wide = wide }
 
 -- with one switch more
 abbrev pub with_switch : Network → List ℕ → ℕ → Network

@@ -18,7 +18,7 @@ pub record TagRange : Type 0 where
   pub first : ℕ
   pub last : ℕ
 
--- a network; a switch is its place in the lists of names and capacities
+-- a network; a switch is its place in the lists of names and capacities; it is wide where its topology has format 2
 pub record Network : Type 0 where
   pub names : List (List ℕ)
   pub capacities : List ℕ
@@ -26,6 +26,7 @@ pub record Network : Type 0 where
   pub hosts : List Stop
   pub vlans : List Vlan
   pub tags : Option TagRange
+  pub wide : Bool
 
 -- how many switches there are
 abbrev pub switch_count : Network → ℕ

@@ -13,6 +13,7 @@ network_of n = record {
   hosts = n.hosts.items;
   vlans = n.vlans.items;
   tags = option_map (λ t. record { first = t.0; last = t.1 }) n.tags;
+  wide = n.wide;
 }
 
 -- the rules of networks, and each port found by its number

@@ -33,7 +33,8 @@ pub struct Link {
     pub other: Stop,
 }
 
-/// A network: switches with their names and capacities, two-way links, host ports, declared VLANs and the tag range.
+/// A network: switches with their names and capacities, two-way links, host ports, declared VLANs and the tag range. It is
+/// wide where its topology has format 2: then policies may say more.
 #[derive(Drop)]
 pub struct Net {
     switches: Switches,
@@ -42,6 +43,7 @@ pub struct Net {
     hosts: Vec<Stop>,
     vlans: Vec<Vlan>,
     tags: Option<(u16, u16)>,
+    wide: bool,
 }
 
 impl Model for Net {
@@ -90,6 +92,13 @@ impl Net {
         ensures { IsNetwork self.now }
     {
         let _ = &self.links;
+    }
+
+    /// Whether the network is wide: its topology has format 2.
+    pub fn is_wide(&self) -> bool
+        ensures { result ≡ self.now.wide }
+    {
+        self.wide
     }
 
     /// How many switches there are, at most 128.
@@ -266,9 +275,9 @@ fn put_host(ends: &mut Ports, hosts: &mut Vec<Stop>, stop: Stop) -> Result<(), A
 }
 
 impl Net {
-    /// No switch, link, host port, VLAN or tag.
-    pub fn empty(alloc: Global) -> Self
-        ensures { result ≡ no_network }
+    /// No switch, link, host port, VLAN or tag; a wide network, or a narrow one.
+    pub fn empty(alloc: Global, wide: bool) -> Self
+        ensures { result ≡ no_network wide }
     {
         Net {
             switches: Switches::new(alloc),
@@ -277,6 +286,7 @@ impl Net {
             hosts: Vec::new(alloc),
             vlans: Vec::new(alloc),
             tags: None,
+            wide,
         }
     }
 

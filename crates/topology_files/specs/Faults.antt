@@ -4,7 +4,7 @@ use Rattle.net_base.specs.declared.field.Field.{Field}
 use Rattle.flat_json.specs.declared.fault.JsonFault.{JsonFault}
 use Rattle.flat_json.specs.declared.fault.JsonFault.TheVariants as json
 use Rattle.topology_files.specs.declared.fault.NetFault.{NetFault}
-use Rattle.topology_files.specs.declared.fault.NetFault.TheVariants.{NotJson, Shape, BadName, DoubleName, UnknownSwitch, BadPort, PortTwice, BadVlan, VlanTwice, BadTags, BadCapacity, TooMany, Memory}
+use Rattle.topology_files.specs.declared.fault.NetFault.TheVariants.{NotJson, Shape, BadName, DoubleName, UnknownSwitch, BadPort, PortTwice, BadVlan, VlanTwice, BadTags, BadCapacity, TooMany, BadFormat, BadField, Memory}
 
 -- how the faults of the tree are told
 abbrev pub of_json : JsonFault → NetFault
@@ -25,6 +25,8 @@ fault_number (VlanTwice place) = 9
 fault_number BadTags = 10
 fault_number (BadCapacity place) = 11
 fault_number (TooMany field place) = 12
+fault_number BadFormat = 13
+fault_number (BadField place) = 14
 fault_number Memory = 0
 
 -- the printed word
@@ -41,6 +43,8 @@ fault_name (VlanTwice place) = codes "VlanTwice"
 fault_name BadTags = codes "BadTags"
 fault_name (BadCapacity place) = codes "BadCapacity"
 fault_name (TooMany field place) = codes "TooMany"
+fault_name BadFormat = codes "BadFormat"
+fault_name (BadField place) = codes "BadField"
 fault_name Memory = codes "Memory"
 
 -- the member that is named beside it
@@ -63,4 +67,6 @@ fault_place (VlanTwice place) = place
 fault_place BadTags = 0
 fault_place (BadCapacity place) = place
 fault_place (TooMany field place) = place
+fault_place BadFormat = 0
+fault_place (BadField place) = place
 fault_place Memory = 0

@@ -1,23 +1,33 @@
 -- The reading of a topology, by the table of its members.
-use Rattle.std.specs.Prelude.{ℕ, ◌&&◌, List, [], ◌∷◌, ◌++◌, length, count_by, Bool, true, not, nat_lt, nat_le, is_none, Option, None, Some, option_and_then, option_map, Result, Ok, codes, if◌then◌else◌}
+use Rattle.std.specs.Prelude.{ℕ, ◌&&◌, ◌||◌, ◌==◌, List, [], ◌∷◌, ◌++◌, length, count_by, Bool, true, false, not, nat_lt, nat_le, is_none, Option, None, Some, option_and_then, option_map, Result, Ok, Err, codes, if◌then◌else◌}
 use Rattle.std.specs.List.{list_any}
 use Rattle.std.specs.Option.{option_or}
 use Rattle.std.specs.Str.{bytes_eq}
 use Rattle.serde_json.specs.Data.{Data}
-use Rattle.serde_json.specs.Find.{as_str}
+use Rattle.serde_json.specs.Find.{get, as_str}
 use Rattle.net_base.specs.declared.ids.Stop.{Stop}
 use Rattle.net_base.specs.declared.ids.Vlan.{Vlan}
 use Rattle.net_base.specs.declared.ids.Vlan.TheVariants.{Untagged, Id}
 use Rattle.net_base.specs.declared.field.Field.{Field}
-use Rattle.net_base.specs.declared.field.Field.TheVariants.{Top, Switches, Name, Capacity, Links, Hosts, Vlans, Tags}
+use Rattle.net_base.specs.declared.field.Field.TheVariants.{Top, Format, Switches, Name, Capacity, Links, Hosts, Vlans, Tags, Fields}
 use Rattle.net_base.specs.Reading.{◌>>=◌, check, need, in_turn}
 use Rattle.flat_json.specs.JsonTree.{is_object, text_at, whole_at, whole_in, list_in, list_at, tree_in}
 use Rattle.topology_files.specs.declared.fault.NetFault.{NetFault}
-use Rattle.topology_files.specs.declared.fault.NetFault.TheVariants.{NotJson, Shape, BadName, DoubleName, UnknownSwitch, BadPort, PortTwice, BadVlan, VlanTwice, BadTags, BadCapacity, TooMany}
+use Rattle.topology_files.specs.declared.fault.NetFault.TheVariants.{NotJson, Shape, BadName, DoubleName, UnknownSwitch, BadPort, PortTwice, BadVlan, VlanTwice, BadTags, BadCapacity, TooMany, BadFormat, BadField}
 use Rattle.topology.specs.Networks.{Network, TagRange, switch_named, used_ports, is_on, stop_eq, vlan_eq, is_name, is_capacity, is_vlan_id}
 use Rattle.topology.specs.Growth.{no_network, with_switch, with_link, with_host, with_vlan, with_tags}
 use Rattle.topology.specs.References.{reference_parts}
 use Rattle.net_base.specs.Switches.{most_switches}
+
+-- ---- format
+
+-- whether the member `format` asks for a wide network; where it is absent the network is narrow
+unfoldable pub format_in : Option Data → Result Bool NetFault
+format_in None = Ok false
+format_in (Some d) = do
+  number ← need (whole_in d) (Shape Format 0)
+  _ ← check (number == 1 || number == 2) BadFormat
+  Ok (number == 2)
 
 -- ---- switches
 
@@ -177,22 +187,49 @@ tags_in net top = do
   range ← range_in top
   Ok (with_tags net range)
 
+-- ---- fields
+
+-- no names: the rules of this version test no further fields
+unfoldable pub no_names : List Data → Result Unit NetFault
+no_names [] = Ok tt
+no_names (d ∷ ds) = do
+  _ ← need (as_str d) (Shape Fields 0)
+  Err (BadField 0)
+
+-- the member `fields`, none where it is absent
+unfoldable pub names_in : Option Data → Result Unit NetFault
+names_in None = Ok tt
+names_in (Some d) = need (list_in d) (Shape Fields 0) >>= λ items. no_names items
+
+-- the member `fields` of a wide network; a narrow one passes it over
+unfoldable pub fields_in : Network → Data → Result Network NetFault
+fields_in net top = do
+  _ ← if net.wide then names_in (get (codes "fields") top) else Ok tt
+  Ok net
+
 -- ---- the file
 
 -- the switches and their ports
-unfoldable pub ports_in : Data → Result Network NetFault
-ports_in top = do
-  switches ← switches_in no_network top
+unfoldable pub ports_in : Bool → Data → Result Network NetFault
+ports_in wide top = do
+  switches ← switches_in (no_network wide) top
   links ← links_in switches top
   hosts_in links top
+
+-- the members behind `format` in their order
+unfoldable pub parts_in : Bool → Data → Result Network NetFault
+parts_in wide top = do
+  ports ← ports_in wide top
+  vlans ← vlans_in ports top
+  tags ← tags_in vlans top
+  fields_in tags top
 
 -- the members in their order
 unfoldable pub members_in : Data → Result Network NetFault
 members_in top = do
   _ ← check (is_object top) (Shape Top 0)
-  ports ← ports_in top
-  vlans ← vlans_in ports top
-  tags_in vlans top
+  wide ← format_in (get (codes "format") top)
+  parts_in wide top
 
 -- the network that the bytes describe, or the first refusal
 unfoldable pub network_in : List ℕ → Result Network NetFault

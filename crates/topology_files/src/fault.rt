@@ -49,13 +49,19 @@ pub enum NetFault {
     /// More than 128 switches, 64 used ports of a switch, or 64 declared VLANs.
     #[error("TooMany")]
     TooMany(Field, u32),
+    /// The format is neither 1 nor 2.
+    #[error("BadFormat")]
+    BadFormat,
+    /// No field of packets has the name.
+    #[error("BadField")]
+    BadField(u32),
     /// Memory was wanting.
     #[error("Memory")]
     Memory,
 }
 
 impl NetFault {
-    /// The number of the refusal, 1 to 12; 0 for want of memory, which is none.
+    /// The number of the refusal, 1 to 14; 0 for want of memory, which is none.
     pub fn number(self) -> u32
         ensures { result ≡ fault_number self }
     {
@@ -72,6 +78,8 @@ impl NetFault {
             NetFault::BadTags => 10,
             NetFault::BadCapacity(_) => 11,
             NetFault::TooMany(..) => 12,
+            NetFault::BadFormat => 13,
+            NetFault::BadField(_) => 14,
             NetFault::Memory => 0,
         }
     }
@@ -93,6 +101,8 @@ impl NetFault {
             NetFault::BadTags => "BadTags",
             NetFault::BadCapacity(_) => "BadCapacity",
             NetFault::TooMany(..) => "TooMany",
+            NetFault::BadFormat => "BadFormat",
+            NetFault::BadField(_) => "BadField",
             NetFault::Memory => "Memory",
         }
     }
@@ -112,7 +122,7 @@ impl NetFault {
         ensures { result ≡ fault_place self }
     {
         match self {
-            NetFault::NotJson | NetFault::BadTags | NetFault::Memory => 0,
+            NetFault::NotJson | NetFault::BadTags | NetFault::BadFormat | NetFault::Memory => 0,
             NetFault::Shape(_, place)
             | NetFault::BadName(place)
             | NetFault::DoubleName(place)
@@ -122,7 +132,8 @@ impl NetFault {
             | NetFault::BadVlan(place)
             | NetFault::VlanTwice(place)
             | NetFault::BadCapacity(place)
-            | NetFault::TooMany(_, place) => place,
+            | NetFault::TooMany(_, place)
+            | NetFault::BadField(place) => place,
         }
     }
 }

@@ -417,39 +417,103 @@ fn read_tags(net: &mut Net, tree: &Tree<'_>, top: &Node) -> Result<(), NetFault>
     Ok(())
 }
 
+/// Reads the member `format`: whether the network is wide.
+#[tactic(auto, unfolding(crate::specs::Topology::format_in))]
+fn read_format(tree: &Tree<'_>, member: Option<&Node>) -> Result<bool, NetFault>
+    ensures { Gives Memory (λ b. b) result
+        (topology.format_in (option_map (λ v. data_of tree.now v.now) member.entry)) }
+{
+    match member {
+        None => Ok(false),
+        Some(value) => {
+            let number = tree
+                .whole(value)
+                .ok_or(NetFault::Shape(Field::Format, 0))?;
+            if number != 1 && number != 2 {
+                return Err(NetFault::BadFormat);
+            }
+            Ok(number == 2)
+        }
+    }
+}
+
+/// Refuses the first name: the rules of this version test no further fields.
+#[tactic(auto, unfolding(crate::specs::Topology::no_names))]
+fn read_no_names(tree: &Tree<'_>, items: &[Node]) -> Result<(), NetFault>
+    ensures { Gives Memory (λ _. tt) result (topology.no_names (map (data_of tree.now) items.now)) }
+{
+    match items {
+        [] => Ok(()),
+        [first, ..] => match tree.as_str(first) {
+            None => Err(NetFault::Shape(Field::Fields, 0)),
+            Some(_) => Err(NetFault::BadField(0)),
+        },
+    }
+}
+
+/// Reads the member `fields` of a wide network.
+#[tactic(auto, unfolding(crate::specs::Topology::names_in))]
+fn read_names(tree: &Tree<'_>, member: Option<&Node>) -> Result<(), NetFault>
+    ensures { Gives Memory (λ _. tt) result
+        (topology.names_in (option_map (λ v. data_of tree.now v.now) member.entry)) }
+{
+    match member {
+        None => Ok(()),
+        Some(value) => {
+            let items = tree
+                .list_in(value)
+                .ok_or(NetFault::Shape(Field::Fields, 0))?;
+            read_no_names(tree, items)
+        }
+    }
+}
+
+/// Reads the member `fields`, which a narrow network passes over.
+#[tactic(auto, unfolding(crate::specs::Topology::fields_in))]
+fn read_fields(net: &Net, tree: &Tree<'_>, top: &Node) -> Result<(), NetFault>
+    ensures { Gives Memory (λ _. net.now) result
+        (topology.fields_in net.now (data_of tree.now top.now)) }
+{
+    if net.is_wide() {
+        read_names(tree, tree.get(top, "fields"))
+    } else {
+        Ok(())
+    }
+}
+
 /// Reads the switches and their ports into an empty network.
 #[tactic(auto, unfolding(crate::specs::Topology::ports_in))]
 fn read_ports(alloc: Global, net: &mut Net, tree: &Tree<'_>, top: &Node) -> Result<(), NetFault>
-    requires { net.old ≡ no_network }
-    ensures { MatchResult result (λ _. topology.ports_in (data_of tree.now top.now) ≡ Ok net.new)
-        (λ e. Fails Memory e (topology.ports_in (data_of tree.now top.now))) }
+    requires { net.old ≡ no_network net.old.wide }
+    ensures { MatchResult result
+        (λ _. topology.ports_in net.old.wide (data_of tree.now top.now) ≡ Ok net.new)
+        (λ e. Fails Memory e (topology.ports_in net.old.wide (data_of tree.now top.now))) }
 {
     read_switches(alloc, net, tree, top)?;
     read_links(net, tree, top)?;
     read_hosts(net, tree, top)
 }
 
-/// Reads the members in their order into an empty network.
-#[tactic(auto, unfolding(crate::specs::Topology::members_in))]
-fn read_members(alloc: Global, net: &mut Net, tree: &Tree<'_>, top: &Node) -> Result<(), NetFault>
-    requires { net.old ≡ no_network }
-    ensures { MatchResult result (λ _. topology.members_in (data_of tree.now top.now) ≡ Ok net.new)
-        (λ e. Fails Memory e (topology.members_in (data_of tree.now top.now))) }
+/// Reads the members behind `format` in their order into an empty network.
+#[tactic(auto, unfolding(crate::specs::Topology::parts_in))]
+fn read_parts(alloc: Global, net: &mut Net, tree: &Tree<'_>, top: &Node) -> Result<(), NetFault>
+    requires { net.old ≡ no_network net.old.wide }
+    ensures { MatchResult result
+        (λ _. topology.parts_in net.old.wide (data_of tree.now top.now) ≡ Ok net.new)
+        (λ e. Fails Memory e (topology.parts_in net.old.wide (data_of tree.now top.now))) }
 {
-    if !tree.is_object(top) {
-        return Err(NetFault::Shape(Field::Top, 0));
-    }
     read_ports(alloc, net, tree, top)?;
     read_vlans(net, tree, top)?;
-    read_tags(net, tree, top)
+    read_tags(net, tree, top)?;
+    read_fields(net, tree, top)
 }
 
-/// Reads the network of a tree.
-fn read_top(alloc: Global, tree: &Tree<'_>) -> Result<Net, NetFault>
-    ensures { Gives Memory (λ n. n) result (topology.members_in (top_of tree.now)) }
+/// Reads the members behind `format` of a wide network or a narrow one.
+fn read_net_of(alloc: Global, wide: bool, tree: &Tree<'_>, top: &Node) -> Result<Net, NetFault>
+    ensures { Gives Memory (λ n. n) result (topology.parts_in wide (data_of tree.now top.now)) }
 {
-    let mut net = Net::empty(alloc);
-    match read_members(alloc, &mut net, tree, tree.top()) {
+    let mut net = Net::empty(alloc, wide);
+    match read_parts(alloc, &mut net, tree, top) {
         Ok(()) => Ok(net),
         Err(fault) => {
             drop(net);
@@ -458,13 +522,25 @@ fn read_top(alloc: Global, tree: &Tree<'_>) -> Result<Net, NetFault>
     }
 }
 
+/// Reads the network of a tree.
+#[tactic(auto, unfolding(crate::specs::Topology::members_in))]
+fn read_top(alloc: Global, tree: &Tree<'_>, top: &Node) -> Result<Net, NetFault>
+    ensures { Gives Memory (λ n. n) result (topology.members_in (data_of tree.now top.now)) }
+{
+    if !tree.is_object(top) {
+        return Err(NetFault::Shape(Field::Top, 0));
+    }
+    let wide = read_format(tree, tree.get(top, "format"))?;
+    read_net_of(alloc, wide, tree, top)
+}
+
 /// Reads the network that the bytes describe, with room for their texts.
 #[tactic(auto, unfolding(crate::specs::Topology::network_in))]
 fn read_bytes(alloc: Global, bytes: &[u8], scratch: &mut Scratch) -> Result<Net, NetFault>
     ensures { Gives Memory (λ n. n) result (topology.network_in bytes.now) }
 {
     let tree = parse_tree(alloc, bytes, scratch)?;
-    let read = read_top(alloc, &tree);
+    let read = read_top(alloc, &tree, tree.top());
     drop(tree);
     read
 }
