@@ -1,10 +1,10 @@
 -- A network that is read keeps what every network keeps.
 use Rattle.std.proofs.Common.{◌≡◌, ℕ, ◌<◌, ◌≤◌, Bool, true, false, Ok, List, [], ◌∷◌, ◌++◌, length, cond, refl, subst, arith}
-use Rattle.std.specs.Prelude.{Option, Some, None, not, nat_lt, is_none, codes, count_by, option_and_then, IfSome}
+use Rattle.std.specs.Prelude.{Option, Some, None, not, nat_lt, is_none, codes, count_by, option_and_then, IfSome, if◌then◌else◌}
 use Rattle.std.specs.List.{list_any}
 use Rattle.std.proofs.lemmas.Bool.{and_parts, ltb-true, leb-true, not-true}
 use Rattle.serde_json.specs.Data.{Data}
-use Rattle.serde_json.specs.Find.{as_str}
+use Rattle.serde_json.specs.Find.{get, as_str}
 use Rattle.net_base.specs.declared.ids.Stop.{Stop}
 use Rattle.net_base.specs.declared.ids.Vlan.{Vlan}
 use Rattle.net_base.specs.declared.ids.Vlan.TheVariants.{Untagged, Id}
@@ -22,7 +22,7 @@ use Rattle.topology.specs.References.{reference_parts}
 use Rattle.topology.proofs.GrowthLaws.{switch_kept, link_kept, host_kept, vlan_kept, tags_kept}
 use Rattle.topology_files.specs.declared.fault.NetFault.{NetFault}
 use Rattle.topology_files.specs.declared.fault.NetFault.TheVariants as fault
-use Rattle.topology_files.specs.Topology.{name_at, named_at, switch_at, switches_in, is_port_number, reference, free_port, two_texts, linked_at, link_at, links_in, host_port_at, host_at, hosts_in, vlan_id, vlan_with, new_vlan_at, vlan_at, vlans_in, range_of, is_range, range_in, tags_in, ports_in, members_in, network_in}
+use Rattle.topology_files.specs.Topology.{name_at, named_at, switch_at, switches_in, is_port_number, reference, free_port, two_texts, linked_at, link_at, links_in, host_port_at, host_at, hosts_in, vlan_id, vlan_with, new_vlan_at, vlan_at, vlans_in, range_of, is_range, range_in, tags_in, names_in, fields_in, ports_in, parts_in, format_in, members_in, network_in}
 use Rattle.net_base.specs.Switches.{most_switches}
 
 none_is : {A : Type 0} (o : Option A) → is_none o ≡ true → o ≡ None
@@ -205,18 +205,31 @@ none_kept wide = record {
   tags = tt;
 }
 
-ports_keep : (top : Data) (net : Network) → ports_in top ≡ Ok net → IsNetwork net
+ports_keep : (wide : Bool) (top : Data) (net : Network) → ports_in wide top ≡ Ok net → IsNetwork net
 unfolding ports_in
-ports_keep top net e =
-    let (switches, first, e1) = bind_ok (switches_in no_network top) _ net e in
+ports_keep wide top net e =
+    let (switches, first, e1) = bind_ok (switches_in (no_network wide) top) _ net e in
     let (links, second, e2) = bind_ok (links_in switches top) (λ links. hosts_in links top) net e1 in
-    hosts_keep links net top (links_keep switches links top (switches_keep no_network switches top none_kept first) second) e2
+    hosts_keep links net top (links_keep switches links top (switches_keep (no_network wide) switches top (none_kept wide) first) second) e2
+
+fields_keep : (net more : Network) (top : Data) → IsNetwork net → fields_in net top ≡ Ok more → IsNetwork more
+unfolding fields_in
+fields_keep net more top is e =
+    let (passed, read, e1) = bind_ok (if net.wide then names_in (get (codes "fields") top) else Ok tt) (λ passed. Ok net) more e in
+    subst IsNetwork (ok_is {E = NetFault} net more e1) is
+
+parts_keep : (wide : Bool) (top : Data) (net : Network) → parts_in wide top ≡ Ok net → IsNetwork net
+unfolding parts_in
+parts_keep wide top net e =
+    let (ports, first, e1) = bind_ok (ports_in wide top) _ net e in
+    let (vlans, second, e2) = bind_ok (vlans_in ports top) _ net e1 in
+    let (tags, third, e3) = bind_ok (tags_in vlans top) (λ tags. fields_in tags top) net e2 in
+    fields_keep tags net top (tags_keep vlans tags top (vlans_keep ports vlans top (ports_keep wide top ports first) second) third) e3
 
 pub network_keeps : (bytes : List ℕ) (net : Network) → network_in bytes ≡ Ok net → IsNetwork net
 unfolding network_in members_in
 network_keeps bytes net e =
     let (top, there, e1) = need_passed (tree_in bytes) fault.NotJson (λ top. members_in top) net e in
     let (object, e2) = check_passed (is_object top) (fault.Shape field.Top 0) _ net e1 in
-    let (ports, first, e3) = bind_ok (ports_in top) _ net e2 in
-    let (vlans, second, e4) = bind_ok (vlans_in ports top) (λ vlans. tags_in vlans top) net e3 in
-    tags_keep vlans net top (vlans_keep ports vlans top (ports_keep top ports first) second) e4
+    let (wide, format, e3) = bind_ok (format_in (get (codes "format") top)) (λ wide. parts_in wide top) net e2 in
+    parts_keep wide top net e3

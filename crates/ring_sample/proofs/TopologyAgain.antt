@@ -6,6 +6,7 @@ use Rattle.std.proofs.lemmas.Bool.{lt-ltb, ne_eqb, and_left, and_right, or_parts
 use Rattle.std.proofs.lemmas.List.FromFn.{length-map-range_with_len, map-range_with_len_more}
 use Rattle.std.proofs.lemmas.List.Sums.{sum_by-cons, count_by-le-length}
 use Rattle.serde_json.specs.Data.{Data, object}
+use Rattle.serde_json.specs.Find.{get}
 use Rattle.net_base.specs.Reading.{in_turn, place_of}
 use Rattle.flat_json.specs.JsonTree.{tree_in}
 use Rattle.flat_json.proofs.JsonTree.{list_of-items_of}
@@ -17,7 +18,7 @@ use Rattle.net_base.specs.declared.ids.Vlan.TheVariants.{Untagged}
 use Rattle.topology.specs.declared.net.Link.{Link}
 use Rattle.topology.specs.Networks.{Network, used_ports, stop_eq, is_on}
 use Rattle.topology.specs.Growth.{no_network}
-use Rattle.topology_files.specs.Topology.{switch_at, named_at, name_at, switches_in, reference, free_port, link_at, linked_at, links_in, host_at, host_port_at, hosts_in, vlan_at, new_vlan_at, vlans_in, tags_in, range_in, ports_in, members_in, network_in}
+use Rattle.topology_files.specs.Topology.{switch_at, named_at, name_at, switches_in, reference, free_port, link_at, linked_at, links_in, host_at, host_port_at, hosts_in, vlan_at, new_vlan_at, vlans_in, tags_in, range_in, fields_in, ports_in, parts_in, format_in, members_in, network_in}
 use Rattle.topology.proofs.PortLaws.{count_append}
 use Rattle.ring_sample.specs.Ring.{numbers_below, ring_name, ring_stop, ring_link, ring_network}
 use Rattle.ring_sample.specs.RingTrees.{switch_tree, link_tree, host_tree, topology_tree, port_text}
@@ -29,7 +30,7 @@ use Rattle.net_base.specs.Switches.{most_switches}
 
 -- with the first k switches
 abbrev switches_of : ℕ → Network
-switches_of k = record { names = map ring_name (numbers_below k); capacities = map (λ i. 64) (numbers_below k); links = []; hosts = []; vlans = []; tags = None }
+switches_of k = record { names = map ring_name (numbers_below k); capacities = map (λ i. 64) (numbers_below k); links = []; hosts = []; vlans = []; tags = None; wide = false }
 
 name_again : (place k : ℕ) → k < most_switches → name_at place (switches_of k) (switch_tree k) ≡ Ok (ring_name k)
 unfolding name_at
@@ -46,7 +47,7 @@ switch_again place k lt =
       map-range_with_len_more {X = ℕ} (λ i. 64) 0 k k (omega arith),
     ) refl
 
-switches_again : (n : ℕ) → n ≤ most_switches → switches_in no_network (topology_tree n) ≡ Ok (switches_of n)
+switches_again : (n : ℕ) → n ≤ most_switches → switches_in (no_network false) (topology_tree n) ≡ Ok (switches_of n)
 unfolding switches_in topology_tree
 switches_again n few = rw (list_of-items_of (map switch_tree (numbers_below n))) (subst (λ (j : ℕ). in_turn switch_at 0 (switches_of 0) (map switch_tree (numbers_below n)) ≡ Ok (switches_of j)) (omega arith) (numbered_turns switch_at switch_tree switches_of most_switches switch_again n 0 0 (omega arith)))
 
@@ -111,7 +112,7 @@ free_again net field place used text stop reads none few = rw (reads, none, lt-l
 
 -- with all switches, and the first k links
 abbrev links_of : ℕ → ℕ → Network
-links_of n k = record { names = map ring_name (numbers_below n); capacities = map (λ i. 64) (numbers_below n); links = map (ring_link n) (numbers_below k); hosts = []; vlans = []; tags = None }
+links_of n k = record { names = map ring_name (numbers_below n); capacities = map (λ i. 64) (numbers_below n); links = map (ring_link n) (numbers_below k); hosts = []; vlans = []; tags = None; wide = false }
 
 module _ (n place k : ℕ) (some : 4 ≤ n) (few : n ≤ most_switches) (lt : k < n) where
   next_below : (k + 1) % n < n
@@ -148,7 +149,7 @@ links_again n some few =
 
 -- with all links, and the first k host ports
 abbrev hosts_of : ℕ → ℕ → Network
-hosts_of n k = record { names = map ring_name (numbers_below n); capacities = map (λ i. 64) (numbers_below n); links = map (ring_link n) (numbers_below n); hosts = map (λ i. ring_stop i 1) (numbers_below k); vlans = []; tags = None }
+hosts_of n k = record { names = map ring_name (numbers_below n); capacities = map (λ i. 64) (numbers_below n); links = map (ring_link n) (numbers_below n); hosts = map (λ i. ring_stop i 1) (numbers_below k); vlans = []; tags = None; wide = false }
 
 module _ (n place k : ℕ) (few : n ≤ most_switches) (lt : k < n) where
   host_free : free_port (hosts_of n k) Hosts place (used_ports (hosts_of n k)) (port_text k 1) ≡ Ok (ring_stop k 1)
@@ -173,7 +174,7 @@ hosts_again n few =
 
 -- ---- the file
 
-ports_again : (n : ℕ) → 4 ≤ n → n ≤ most_switches → ports_in (topology_tree n) ≡ Ok (hosts_of n n)
+ports_again : (n : ℕ) → 4 ≤ n → n ≤ most_switches → ports_in false (topology_tree n) ≡ Ok (hosts_of n n)
 unfolding ports_in
 ports_again n some few = rw (switches_again n few, links_again n some few, hosts_again n few) refl
 
@@ -188,9 +189,21 @@ tags_again : (n : ℕ) → tags_in (vlans_of n) (topology_tree n) ≡ Ok (ring_n
 unfolding tags_in range_in topology_tree ring_network
 tags_again n = refl
 
+fields_again : (n : ℕ) → fields_in (ring_network n) (topology_tree n) ≡ Ok (ring_network n)
+unfolding fields_in ring_network
+fields_again n = refl
+
+parts_again : (n : ℕ) → 4 ≤ n → n ≤ most_switches → parts_in false (topology_tree n) ≡ Ok (ring_network n)
+unfolding parts_in topology_tree
+parts_again n some few = rw (ports_again n some few, vlans_again n, tags_again n, fields_again n) refl
+
+format_again : (n : ℕ) → format_in (get (codes "format") (topology_tree n)) ≡ Ok false
+unfolding format_in topology_tree
+format_again n = refl
+
 members_again : (n : ℕ) → 4 ≤ n → n ≤ most_switches → members_in (topology_tree n) ≡ Ok (ring_network n)
 unfolding members_in topology_tree
-members_again n some few = rw (ports_again n some few, vlans_again n, tags_again n) refl
+members_again n some few = rw (format_again n, parts_again n some few) refl
 
 pub topology_again : (n : ℕ) (bytes : List ℕ) (d : Data) → 4 ≤ n → n ≤ most_switches → d ≡ topology_tree n → tree_in bytes ≡ Some d → network_in bytes ≡ Ok (ring_network n)
 unfolding network_in

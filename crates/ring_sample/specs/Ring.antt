@@ -1,6 +1,6 @@
 -- The ring of the sample, as values: switches in a ring, each with a host, and four destinations, to which packets go the one way
 -- round before the update and the other way after it.
-use Rattle.std.specs.Prelude.{ℕ, ◌+◌, ◌*◌, ◌%◌, ◌^◌, ◌==◌, List, [], ◌∷◌, ◌++◌, map, flat_map, filter, not, true, Some, None, codes, decimal, if◌then◌else◌}
+use Rattle.std.specs.Prelude.{ℕ, ◌+◌, ◌*◌, ◌%◌, ◌^◌, ◌==◌, List, [], ◌∷◌, ◌++◌, map, flat_map, filter, not, true, false, Some, None, codes, decimal, if◌then◌else◌}
 use Rattle.std.specs.List.{range_with_len}
 use Rattle.net_base.specs.Blocks.{Block}
 use Rattle.net_base.specs.declared.ids.Stop.{Stop}
@@ -41,6 +41,7 @@ ring_network n = record {
   hosts = map (λ i. ring_stop i 1) (numbers_below n);
   vlans = Untagged ∷ [];
   tags = Some (record { first = 3000; last = 3000 });
+  wide = false;
 }
 
 -- ---- the tables

@@ -1,6 +1,6 @@
 -- Worked examples: the net of five switches, where the two-phase plan is needed, and the net of four.
 use Rattle.std.proofs.Common.{◌≡◌, ℕ, true, false, List, [], ◌∷◌, length, refl, inl}
-use Rattle.std.specs.Prelude.{Some, None}
+use Rattle.std.specs.Prelude.{false, Some, None}
 use Rattle.net_base.specs.declared.ids.Port.{Port}
 use Rattle.net_base.specs.declared.ids.SwitchId.{SwitchId}
 use Rattle.net_base.specs.declared.ids.Stop.{Stop}
@@ -152,7 +152,7 @@ no_chain = refl
 
 -- a switch with two hosts, a rule that drops and one that is replaced by one of a higher priority in the same round
 abbrev net_A : Network
-net_A = record { names = (97 ∷ []) ∷ []; capacities = 8 ∷ []; links = []; hosts = stop 0 1 ∷ stop 0 2 ∷ []; vlans = vlan.Untagged ∷ []; tags = None }
+net_A = record { names = (97 ∷ []) ∷ []; capacities = 8 ∷ []; links = []; hosts = stop 0 1 ∷ stop 0 2 ∷ []; vlans = vlan.Untagged ∷ []; tags = None; wide = false }
 
 abbrev drop_eight : Rule
 drop_eight = rule 50 None test.Any (record { base = 167772160; len = 8 }) action.Discard
