@@ -1,5 +1,5 @@
 -- The used ports as the code holds them.
-use Rattle.std.proofs.Common.{◌≡◌, ◌≢◌, ◌↔◌, ℕ, zero, suc, ◌+◌, ◌≤◌, ◌<◌, ◌==◌, ◌||◌, get_or, set, replicate, Bool, true, false, cond, IsTrue, List, [], ◌∷◌, ◌++◌, map, length, Option, Some, None, is_some, refl, sym, ◌∙◌, ap, subst, inl, inr, arith, length-append}
+use Rattle.std.proofs.Common.{◌≡◌, ◌≢◌, ◌↔◌, ℕ, zero, suc, ◌+◌, ◌≤◌, ◌<◌, ◌==◌, ◌||◌, get_or, set, replicate, Bool, true, false, cond, IsTrue, List, [], ◌∷◌, ◌++◌, map, length, Option, Some, None, is_some, refl, sym, ◌∙◌, ap, subst, inl, inr, arith, length-append, length-set}
 use Rattle.std.specs.Prelude.{count_by, filter, unwrap_or, slice_get}
 use Rattle.std.specs.Cmp.{IsEquivalence}
 use Rattle.std.specs.List.{list_any}
@@ -246,6 +246,30 @@ none_from (Some x) e = absurd cc
 -- a port that isn't used goes last
 pub added : {S : Type 0} (m : IndexMap Stop End S) (a : Stop) (e : End) → list_any (stop_eq a) (map port_of m.entries) ≡ false → insert_entry stop_eq m.entries a e ≡ m.entries ++ (a, e) ∷ []
 added m a e free = insert_entry-new stop_eq m a e (none_from (lookup (stop_eq a) m.entries) (is_some-lookup (stop_eq a) m.entries ∙ free))
+
+-- the same where the map holds these entries
+added_to : {S : Type 0} (m : IndexMap Stop End S) (es : List Entry) (a : Stop) (e : End) → m.entries ≡ es → list_any (stop_eq a) (map port_of es) ≡ false → insert_entry stop_eq m.entries a e ≡ es ++ (a, e) ∷ []
+added_to m es a e same free = added m a e (ap (λ (xs : List Entry). list_any (stop_eq a) (map port_of xs)) same ∙ free) ∙ ap (λ (xs : List Entry). xs ++ (a, e) ∷ []) same
+
+-- two ports, of which the first is added to one map and the second to the next
+module _ {S : Type 0} (m n : IndexMap Stop End S) (es after : List Entry) (a b : Stop) (d e : End) where
+  pub both_added : m.entries ≡ es → n.entries ≡ insert_entry stop_eq m.entries a d → after ≡ insert_entry stop_eq n.entries b e
+      → list_any (stop_eq a) (map port_of es) ≡ false → list_any (stop_eq b) (map port_of es ++ a ∷ []) ≡ false → after ≡ (es ++ (a, d) ∷ []) ++ (b, e) ∷ []
+  both_added same first second a_free b_free =
+      second
+      ∙ added_to n (es ++ (a, d) ∷ []) b e (first ∙ added_to m es a d same a_free) (ap (λ (ps : List Stop). list_any (stop_eq b) ps) (map_added es a d) ∙ b_free)
+
+-- two ports more are counted
+pub both_counted : (counts : List ℕ) (es after : List Entry) (a b : Stop) (d e : End) → AreCounts counts (map port_of es) → a.switch.0 < length counts → b.switch.0 < length counts
+    → after ≡ (es ++ (a, d) ∷ []) ++ (b, e) ∷ []
+    → AreCounts (set (set counts a.switch.0 (get_or counts a.switch.0 0 + 1)) b.switch.0 (get_or (set counts a.switch.0 (get_or counts a.switch.0 0 + 1)) b.switch.0 0 + 1)) (map port_of after)
+both_counted counts es after a b d e are a_within b_within is =
+    let once = set counts a.switch.0 (get_or counts a.switch.0 0 + 1) in
+    let longer = length-set counts a.switch.0 (get_or counts a.switch.0 0 + 1) in
+    let ports : map port_of after ≡ (map port_of es ++ a ∷ []) ++ b ∷ [] =
+    ap (map port_of) is ∙ map_added (es ++ (a, d) ∷ []) b e ∙ ap (λ (ps : List Stop). ps ++ b ∷ []) (map_added es a d) in
+    subst (λ (ps : List Stop). AreCounts (set once b.switch.0 (get_or once b.switch.0 0 + 1)) ps) (sym ports)
+    (counted once (map port_of es ++ a ∷ []) b (counted counts (map port_of es) a are a_within) (subst (λ (k : ℕ). b.switch.0 < k) (sym longer) b_within))
 
 module _ (net : Network) (ends : List Entry) (kept : ends ≡ port_ends net.links net.hosts) where
   same_ports : map port_of ends ≡ ends_of net.links ++ net.hosts

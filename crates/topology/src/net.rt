@@ -1,6 +1,6 @@
 //! The network that contracts see, and what is at a port.
 
-ghost use Rattle.std.specs.Prelude.{◌≡◌, ◌≢◌, ◌↔◌, ◌<◌, ◌≤◌, ◌++◌, ◌∷◌, [], IsTrue, ◌&&◌, not, length, count_by, option_map, map, slice_get, IfSome, OnOk, None, Some, true, false};
+ghost use Rattle.std.specs.Prelude.{◌≡◌, ◌≢◌, ◌↔◌, ◌<◌, ◌≤◌, ◌++◌, ◌∷◌, [], IsTrue, ◌&&◌, not, length, count_by, option_map, map, slice_get, IfSome, OnOk, OnErr, None, Some, true, false};
 ghost use Rattle.std.specs.List.{list_any};
 ghost use Rattle.topology.specs.Networks.{IsNetwork, IsVlan, IsVlanId, IsUsed, IsAvailableTag, stop_eq, end_at, vlan_eq, IsEntry, switch_count, switch_named, capacity_of, used_ports, is_used, is_host, is_on, is_tag, in_range, is_name, is_capacity};
 ghost use Rattle.topology.specs.Growth.{no_network, with_switch, with_link, with_host, with_vlan, with_tags};
@@ -232,7 +232,7 @@ impl Net {
     }
 }
 
-/// Puts a link between two ports, and what is at each.
+/// Puts a link between two ports, and what is at each. Where memory is wanting nothing changes.
 fn put_link(ends: &mut Ports, links: &mut Vec<Link>, a: Stop, b: Stop) -> Result<(), AllocError>
     requires a_free { list_any (stop_eq a) (map (λ p. p.0) ends.old) ≡ false }
     requires b_free { list_any (stop_eq b) (map (λ p. p.0) ends.old ++ a ∷ []) ≡ false }
@@ -243,32 +243,31 @@ fn put_link(ends: &mut Ports, links: &mut Vec<Link>, a: Stop, b: Stop) -> Result
         ≡ (ends.old ++ (a, at.Link b.switch b.port) ∷ []) ++ (b, at.Link a.switch a.port) ∷ []) }
     ensures links { OnOk result (links.new.items
         ≡ links.old.items ++ record { one = a; other = b } ∷ []) }
+    ensures ends_kept { OnErr result (ends.new ≡ ends.old) }
+    ensures links_kept { OnErr result (links.new.items ≡ links.old.items) }
 {
-    ends.add(a, End::Link(b.switch, b.port))?;
-    ends.add(b, End::Link(a.switch, a.port))?;
+    links.reserve(1)?;
+    ends.add_both(
+        a,
+        End::Link(b.switch, b.port),
+        b,
+        End::Link(a.switch, a.port),
+    )?;
     links.push(Link { one: a, other: b })?;
     Ok(())
 }
 
-/// No link and no host port any more.
-fn clear_ports(ends: &mut Ports, links: &mut Vec<Link>, hosts: &mut Vec<Stop>)
-    ensures ends { ends.new ≡ [] }
-    ensures links { links.new.items ≡ [] }
-    ensures hosts { hosts.new.items ≡ [] }
-{
-    ends.clear();
-    links.clear();
-    hosts.clear();
-}
-
-/// Puts a host port, and what is there.
+/// Puts a host port, and what is there. Where memory is wanting nothing changes.
 fn put_host(ends: &mut Ports, hosts: &mut Vec<Stop>, stop: Stop) -> Result<(), AllocError>
     requires free { list_any (stop_eq stop) (map (λ p. p.0) ends.old) ≡ false }
     requires within { stop.switch.0 < most_switches }
     requires room { count_by (is_on stop.switch) (map (λ p. p.0) ends.old) < 64 }
     ensures ends { OnOk result (ends.new ≡ ends.old ++ (stop, at.Host) ∷ []) }
     ensures hosts { OnOk result (hosts.new.items ≡ hosts.old.items ++ stop ∷ []) }
+    ensures ends_kept { OnErr result (ends.new ≡ ends.old) }
+    ensures hosts_kept { OnErr result (hosts.new.items ≡ hosts.old.items) }
 {
+    hosts.reserve(1)?;
     ends.add(stop, End::Host)?;
     hosts.push(stop)?;
     Ok(())
@@ -298,20 +297,22 @@ impl Net {
         self.ends.count_on(switch)
     }
 
-    /// Adds a switch by a name that no other one has, with the most table entries that it takes.
+    /// Adds a switch by a name that no other one has, with the most table entries that it takes. Where memory is
+    /// wanting the network stays as it was.
     pub fn add_switch(&mut self, alloc: Global, name: &str, capacity: u32) -> Result<(), AllocError>
         requires room { length self.old.names < most_switches }
         requires form { is_name name.now ≡ true }
         requires new { switch_named self.old.names name.now ≡ None }
         requires capacity { is_capacity capacity ≡ true }
-        ensures { OnOk result (self.new ≡ with_switch self.old name.now capacity) }
+        ensures ok { OnOk result (self.new ≡ with_switch self.old name.now capacity) }
+        ensures err { OnErr result (self.new ≡ self.old) }
     {
         self.switches.add(alloc, name, capacity)?;
         Ok(())
     }
 
-    /// Adds a link between ports that aren't used. No host port stands yet. Where memory is wanting neither a link nor
-    /// a host port is left.
+    /// Adds a link between ports that aren't used. No host port stands yet. Where memory is wanting the network stays
+    /// as it was.
     pub fn add_link(&mut self, a: Stop, b: Stop) -> Result<(), AllocError>
         requires first { self.old.hosts ≡ [] }
         requires ports { IsPort self.old a × IsPort self.old b }
@@ -319,39 +320,32 @@ impl Net {
         requires b_free { list_any (stop_eq b) (used_ports self.old ++ a ∷ []) ≡ false }
         requires a_room { count_by (is_on a.switch) (used_ports self.old) < 64 }
         requires b_room { count_by (is_on b.switch) (used_ports self.old ++ a ∷ []) < 64 }
-        ensures { OnOk result (self.new ≡ with_link self.old a b) }
+        ensures ok { OnOk result (self.new ≡ with_link self.old a b) }
+        ensures err { OnErr result (self.new ≡ self.old) }
     {
-        match put_link(&mut self.ends, &mut self.links, a, b) {
-            Ok(()) => Ok(()),
-            Err(e) => {
-                clear_ports(&mut self.ends, &mut self.links, &mut self.hosts);
-                Err(e)
-            }
-        }
+        put_link(&mut self.ends, &mut self.links, a, b)?;
+        Ok(())
     }
 
-    /// Adds a host port, which isn't used. Where memory is wanting neither a link nor a host port is left.
+    /// Adds a host port, which isn't used. Where memory is wanting the network stays as it was.
     pub fn add_host(&mut self, stop: Stop) -> Result<(), AllocError>
         requires port { IsPort self.old stop }
         requires free { list_any (stop_eq stop) (used_ports self.old) ≡ false }
         requires room { count_by (is_on stop.switch) (used_ports self.old) < 64 }
-        ensures { OnOk result (self.new ≡ with_host self.old stop) }
+        ensures ok { OnOk result (self.new ≡ with_host self.old stop) }
+        ensures err { OnErr result (self.new ≡ self.old) }
     {
-        match put_host(&mut self.ends, &mut self.hosts, stop) {
-            Ok(()) => Ok(()),
-            Err(e) => {
-                clear_ports(&mut self.ends, &mut self.links, &mut self.hosts);
-                Err(e)
-            }
-        }
+        put_host(&mut self.ends, &mut self.hosts, stop)?;
+        Ok(())
     }
 
-    /// Adds a VLAN that isn't declared yet.
+    /// Adds a VLAN that isn't declared yet. Where memory is wanting the network stays as it was.
     pub fn add_vlan(&mut self, vlan: Vlan) -> Result<(), AllocError>
         requires room { length self.old.vlans < 64 }
         requires form { IsVlan vlan }
         requires new { list_any (vlan_eq vlan) self.old.vlans ≡ false }
-        ensures { OnOk result (self.new ≡ with_vlan self.old vlan) }
+        ensures ok { OnOk result (self.new ≡ with_vlan self.old vlan) }
+        ensures err { OnErr result (self.new ≡ self.old) }
     {
         self.vlans.push(vlan)?;
         Ok(())

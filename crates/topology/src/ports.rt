@@ -1,5 +1,5 @@
 //! The used ports and what is at each.
-ghost use Rattle.std.specs.Prelude.{◌≡◌, ◌<◌, ◌^◌, ◌++◌, ◌∷◌, [], count_by, map, unwrap_or, IfSome, Some, OnOk, false};
+ghost use Rattle.std.specs.Prelude.{◌≡◌, ◌<◌, ◌^◌, ◌++◌, ◌∷◌, [], count_by, map, unwrap_or, IfSome, Some, OnOk, OnErr, false};
 ghost use Rattle.std.specs.List.{list_any};
 ghost use Rattle.std.specs.Map.{lookup};
 ghost use Rattle.topology.specs.Networks.{stop_eq, is_on};
@@ -104,12 +104,13 @@ impl Ports {
         }
     }
 
-    /// Adds a port that isn't used.
+    /// Adds a port that isn't used. Where memory is wanting the ports stay as they were.
     pub fn add(&mut self, stop: Stop, end: End) -> Result<(), AllocError>
         requires free { list_any (stop_eq stop) (map (λ p. p.0) self.old) ≡ false }
         requires within { stop.switch.0 < most_switches }
         requires room { count_by (is_on stop.switch) (map (λ p. p.0) self.old) < 64 }
-        ensures { OnOk result (self.new ≡ self.old ++ (stop, end) ∷ []) }
+        ensures ok { OnOk result (self.new ≡ self.old ++ (stop, end) ∷ []) }
+        ensures err { OnErr result (self.new ≡ self.old) }
     {
         point_slot(&mut self.slots, stop, self.ends.len())?;
         self.ends.insert(stop, end)?;
@@ -117,11 +118,25 @@ impl Ports {
         Ok(())
     }
 
-    /// No port is used any more.
-    pub fn clear(&mut self)
-        ensures { self.new ≡ [] }
+    /// Adds two ports that aren't used. Where memory is wanting the ports stay as they were.
+    pub fn add_both(&mut self, a: Stop, at_a: End, b: Stop, at_b: End) -> Result<(), AllocError>
+        requires a_free { list_any (stop_eq a) (map (λ p. p.0) self.old) ≡ false }
+        requires b_free { list_any (stop_eq b) (map (λ p. p.0) self.old ++ a ∷ []) ≡ false }
+        requires within { (a.switch.0 < most_switches) × (b.switch.0 < most_switches) }
+        requires a_room { count_by (is_on a.switch) (map (λ p. p.0) self.old) < 64 }
+        requires b_room { count_by (is_on b.switch) (map (λ p. p.0) self.old ++ a ∷ []) < 64 }
+        ensures ok { OnOk result (self.new ≡ (self.old ++ (a, at_a) ∷ []) ++ (b, at_b) ∷ []) }
+        ensures err { OnErr result (self.new ≡ self.old) }
     {
-        self.ends.clear();
-        self.counts = [0; MAX_SWITCHES as usize];
+        let place = self.ends.len();
+        point_slot(&mut self.slots, a, place)?;
+        point_slot(&mut self.slots, b, place + 1)?;
+        // With room for both, neither is added without the other.
+        self.ends.reserve(2)?;
+        self.ends.insert(a, at_a)?;
+        self.ends.insert(b, at_b)?;
+        self.counts[a.switch.0 as usize] += 1;
+        self.counts[b.switch.0 as usize] += 1;
+        Ok(())
     }
 }

@@ -16,15 +16,15 @@ pub put_host-requires-clause-room : goal.put_host-requires-clause-room
 put_host-requires-clause-room c =
     subst (λ (n : ℕ). n < 64) (sym (used_count (network_of c.self.inside) c.self.inside.ends c.self.invariant.ends c.args.stop.switch)) (rw (← c.self.view_is) at c.requires.room)
 
-pub invariant_of-self : goal.invariant_of-self
-invariant_of-self c = record {
+pub invariant_of-self-2 : goal.invariant_of-self-2
+invariant_of-self-2 c = record {
   network =
-      subst (λ (hs : List Stop). IsNetwork (record (network_of c.self.inside) { hosts = hs })) (sym c.in-Ok.ensures.hosts)
+      subst (λ (hs : List Stop). IsNetwork (record (network_of c.self.inside) { hosts = hs })) (sym c.in_ok-put_host.ensures.hosts)
       (host_kept (network_of c.self.inside) c.self.invariant.network c.args.stop (rw (← c.self.view_is) at c.requires.port) (rw (← c.self.view_is) at c.requires.free)
       (rw (← c.self.view_is) at c.requires.room));
   ends =
-      c.in-Ok.ensures.ends
+      c.in_ok-put_host.ensures.ends
       ∙ ap (λ (es : List (Stop × End)). es ++ (c.args.stop, at.Host) ∷ []) c.self.invariant.ends
       ∙ host_ends c.self.inside.links.items c.self.inside.hosts.items c.args.stop
-      ∙ ap (port_ends c.self.inside.links.items) (sym c.in-Ok.ensures.hosts);
+      ∙ ap (port_ends c.self.inside.links.items) (sym c.in_ok-put_host.ensures.hosts);
 }

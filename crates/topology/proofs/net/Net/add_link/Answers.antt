@@ -25,15 +25,15 @@ pub put_link-requires-clause-b_room : goal.put_link-requires-clause-b_room
 put_link-requires-clause-b_room c =
     subst (λ (n : ℕ). n < 64) (sym (count_beside (network_of c.self.inside) c.self.inside.ends c.self.invariant.ends c.args.a c.args.b.switch)) (rw (← c.self.view_is) at c.requires.b_room)
 
-pub invariant_of-self : goal.invariant_of-self
-invariant_of-self c = record {
+pub invariant_of-self-2 : goal.invariant_of-self-2
+invariant_of-self-2 c = record {
   network =
-      subst (λ (ls : List Link). IsNetwork (record (network_of c.self.inside) { links = ls })) (sym c.in-Ok.ensures.links)
+      subst (λ (ls : List Link). IsNetwork (record (network_of c.self.inside) { links = ls })) (sym c.in_ok-put_link.ensures.links)
       (link_kept (network_of c.self.inside) c.self.invariant.network c.args.a c.args.b (rw (← c.self.view_is) at c.requires.ports.0) (rw (← c.self.view_is) at c.requires.ports.1)
       (rw (← c.self.view_is) at c.requires.a_free) (rw (← c.self.view_is) at c.requires.b_free) (rw (← c.self.view_is) at c.requires.a_room) (rw (← c.self.view_is) at c.requires.b_room));
   ends =
-      c.in-Ok.ensures.ends
+      c.in_ok-put_link.ensures.ends
       ∙ ap (λ (es : List (Stop × End)). (es ++ (c.args.a, at.Link c.args.b.switch c.args.b.port) ∷ []) ++ (c.args.b, at.Link c.args.a.switch c.args.a.port) ∷ []) c.self.invariant.ends
       ∙ link_ends c.self.inside.links.items c.self.inside.hosts.items c.args.a c.args.b (rw (← c.self.view_is) at c.requires.first)
-      ∙ ap (λ (ls : List Link). port_ends ls c.self.inside.hosts.items) (sym c.in-Ok.ensures.links);
+      ∙ ap (λ (ls : List Link). port_ends ls c.self.inside.hosts.items) (sym c.in_ok-put_link.ensures.links);
 }

@@ -14,5 +14,5 @@ invariant_of-self-2 c =
     (sym (ap (map port_of) (c.in_ok-insert.ensures.entries ∙ added c.self.inside.ends c.args.stop c.args.end (rw (← c.self.view_is) at c.requires.free)) ∙ map_added c.self.inside.ends.entries c.args.stop c.args.end))
     (counted counts (map port_of c.self.inside.ends.entries) c.args.stop c.self.invariant within)
 
-pub returns : goal.returns
-returns c = rw (← c.self.view_is) (c.in_ok-insert.ensures.entries ∙ added c.self.inside.ends c.args.stop c.args.end (rw (← c.self.view_is) at c.requires.free))
+pub returns-clause-ok : goal.returns-clause-ok
+returns-clause-ok c = rw (← c.self.view_is) (c.in_ok-insert.ensures.entries ∙ added c.self.inside.ends c.args.stop c.args.end (rw (← c.self.view_is) at c.requires.free))
