@@ -426,9 +426,7 @@ fn read_format(tree: &Tree<'_>, member: Option<&Node>) -> Result<bool, NetFault>
     match member {
         None => Ok(false),
         Some(value) => {
-            let number = tree
-                .whole(value)
-                .ok_or(NetFault::Shape(Field::Format, 0))?;
+            let number = tree.whole(value).ok_or(NetFault::Shape(Field::Format, 0))?;
             if number != 1 && number != 2 {
                 return Err(NetFault::BadFormat);
             }
