@@ -1,23 +1,19 @@
 -- Duties of addresses of one class are the same, and what begins a good trace is good while it has no end.
 use Rattle.std.proofs.Common.{◌≡◌, ◌&&◌, ℕ, cond, List, [], ◌∷◌, map, refl, ◌∙◌, subst, ap, inl, inr}
-use Rattle.std.specs.Prelude.{true}
 use Rattle.std.specs.List.{AllByRecursion, list_any}
-use Rattle.std.specs.Option.{option_map_or}
-use Rattle.topology.specs.Networks.{stop_eq}
 use Rattle.net_base.specs.Blocks.{in_block}
 use Rattle.net_base.specs.Members.{IsIn, IsDistinct, IsPrefix}
-use Rattle.net_base.specs.Places.{stop_of}
 use Rattle.net_base.specs.declared.ids.Place.{Place}
 use Rattle.net_base.specs.declared.ids.Stop.{Stop}
 use Rattle.net_base.specs.declared.ids.SwitchId.{SwitchId}
 use Rattle.flow_rules.specs.Patterns.{admits_vlan}
-use Rattle.demands.specs.Duties.{DemandView, PacketDuties, demand_covers, demands_on, duties_of, ascending_chains, first_of_each}
+use Rattle.demands.specs.Duties.{DemandView, PacketDuties, admits_entry, demand_covers, demands_on, duties_of, ascending_chains, first_of_each}
 use Rattle.demands.specs.Good.{switches_of}
 
 demands_same : (demands : List DemandView) (entry : Place) (a b : ℕ) → AllByRecursion (λ d. in_block d.dst a ≡ in_block d.dst b) demands → demands_on demands entry a ≡ demands_on demands entry b
 demands_same [] entry a b same = refl
 demands_same (d ∷ demands) entry a b same =
-    ap (λ t. cond (option_map_or (λ s. stop_eq s (stop_of entry)) d.from true && admits_vlan d.vlan entry.vlan && t) (d ∷ demands_on demands entry a) (demands_on demands entry a)) same.0
+    ap (λ t. cond (admits_entry d.from entry && admits_vlan d.vlan entry.vlan && t) (d ∷ demands_on demands entry a) (demands_on demands entry a)) same.0
     ∙ ap (λ ds. cond (demand_covers d entry b) (d ∷ ds) ds) (demands_same demands entry a b same.1)
 
 -- addresses that no demand tells apart have the same duties

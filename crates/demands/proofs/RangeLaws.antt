@@ -1,7 +1,7 @@
 -- What is read is in range.
 use Rattle.std.proofs.Common.{◌≡◌, ℕ, suc, ◌+◌, ◌-◌, ◌%◌, ◌<◌, ◌≤◌, ◌^◌, Bool, true, false, List, [], ◌∷◌, ◌++◌, length, Option, Some, None, Result, Ok, Err, refl, sym, ◌∙◌, subst, ap, arith, length-append}
 use Rattle.std.specs.Prelude.{IfOk, position, ◌&&◌, nat_le, nat_lt, IfSome, ⊤, codes}
-use Rattle.std.specs.List.{AllByRecursion}
+use Rattle.std.specs.List.{AllByRecursion, list_any}
 use Rattle.std.specs.Str.{bytes_eq}
 use Rattle.std.proofs.lemmas.Bool.{and_parts, leb-true, ltb-true, eqb-true, cond_both}
 use Rattle.std.proofs.lemmas.Option.{option_and_then_some, cond_some, same_Some}
@@ -32,8 +32,8 @@ use Rattle.demands.specs.declared.fault.DemandFault.TheVariants.{NotJson, Shape,
 use Rattle.demands.specs.declared.read.TestWord.{TestWord}
 use Rattle.demands.specs.declared.read.TestWord.TheVariants as word
 use Rattle.demands.specs.Duties.{DemandView}
-use Rattle.demands.specs.Policy.{host_with, host_in, source_in, from_in, test_word, test_of, test_in, waypoint_at, waypoints_in, through_in, deliver_in, dst_in, cover_in, demand_in, demand_at, members_in, demands_in}
-use Rattle.demands.specs.Ranges.{IsTest, IsDemand, AreDemands}
+use Rattle.demands.specs.Policy.{host_with, host_in, source_in, with_source, source_at, listed_in, sources_in, from_in, test_word, test_of, test_in, waypoint_at, waypoints_in, through_in, deliver_in, unknown_in, dst_in, cover_in, demand_in, demand_at, members_in, demands_in}
+use Rattle.demands.specs.Ranges.{IsTest, AreHostPorts, IsDemand, AreDemands}
 
 abbrev Read : Type 0 → Type 0
 Read A = Result A DemandFault
@@ -78,23 +78,86 @@ host_range net place text stop e =
     let (found, i, same) = in_from_any (stop_eq at) net.hosts h in
     subst (λ x. IsIn x net.hosts) (sym (stop_eq-true at found same) ∙ t.1) i))
 
-abbrev any_host : Result (Option Stop) DemandFault
+abbrev any_host : Result (Option (List Stop)) DemandFault
 any_host = Ok None
 
-abbrev some_host : Stop → Result (Option Stop) DemandFault
-some_host stop = Ok (Some stop)
+abbrev some_host : Stop → Result (Option (List Stop)) DemandFault
+some_host stop = Ok (Some (stop ∷ []))
 
-source_range : (net : Network) (place : ℕ) (text : List ℕ) (from : Option Stop) → source_in net place text ≡ Ok from → IfSome from (λ s. IsIn s net.hosts)
+abbrev some_hosts : List Stop → Result (Option (List Stop)) DemandFault
+some_hosts stops = Ok (Some stops)
+
+source_range : (net : Network) (place : ℕ) (text : List ℕ) (from : Option (List Stop)) → source_in net place text ≡ Ok from → IfSome from (AreHostPorts net)
 unfolding source_in
 source_range net place text from e =
-    cond_both (bytes_eq text (codes "any")) any_host (host_in net place text >>= some_host) (λ r. r ≡ Ok from → IfSome from (λ s. IsIn s net.hosts))
-    (λ _ f. subst (λ o. IfSome o (λ s. IsIn s net.hosts)) (ok_is {E = DemandFault} None from f) tt)
-    (λ _ f. step (host_in net place text) some_host from f (λ stop hs g. subst (λ o. IfSome o (λ s. IsIn s net.hosts)) (ok_is {E = DemandFault} (Some stop) from g) (host_range net place text stop hs))) e
+    cond_both (bytes_eq text (codes "any")) any_host (host_in net place text >>= some_host) (λ r. r ≡ Ok from → IfSome from (AreHostPorts net))
+    (λ _ f. subst (λ o. IfSome o (AreHostPorts net)) (ok_is {E = DemandFault} None from f) tt)
+    (λ _ f. step (host_in net place text) some_host from f (λ stop hs g.
+    subst (λ o. IfSome o (AreHostPorts net)) (ok_is {E = DemandFault} (Some (stop ∷ [])) from g) (record { some = omega arith; few = omega arith; each = (host_range net place text stop hs, tt) }))) e
 
-from_range : (net : Network) (place : ℕ) (d : Option Data) (from : Option Stop) → from_in net place d ≡ Ok from → IfSome from (λ s. IsIn s net.hosts)
-unfolding from_in
-from_range net place None from e = subst (λ o. IfSome o (λ s. IsIn s net.hosts)) (ok_is {E = DemandFault} None from e) tt
-from_range net place (Some d) from e = step _ _ from e (λ text ht e1. source_range net place text from e1)
+module _ (net : Network) (place : ℕ) where
+  abbrev AreHosts : List Stop → Type 0
+  AreHosts stops = AllByRecursion (λ s. IsIn s net.hosts) stops
+
+  -- one port more, where it isn't there
+  one_more : (before : List Stop) (stop : Stop) → AreHosts before → IsIn stop net.hosts
+      → AreHosts (with_source before stop) × (length (with_source before stop) ≤ suc (length before)) × (0 < length (with_source before stop))
+  one_more [] stop known is = ((is, tt), omega arith, omega arith)
+  one_more (s ∷ before) stop known is =
+      let all = s ∷ before in
+      let longer = length-append before (stop ∷ []) in
+      cond_both (list_any (stop_eq stop) all) all (all ++ stop ∷ []) (λ stops. AreHosts stops × (length stops ≤ suc (suc (length before))) × (0 < length stops))
+      (λ _. (known, omega arith, omega arith))
+      (λ _. (each_append (λ (x : Stop). IsIn x net.hosts) all (stop ∷ []) known (is, tt), omega arith, omega arith))
+
+  listed_one : (before after : List Stop) (d : Data) → AreHosts before → source_at net place before d ≡ Ok after
+      → AreHosts after × (length after ≤ suc (length before)) × (0 < length after)
+  unfolding source_at
+  listed_one before after d known e =
+      step (need (as_str d) (Shape From place)) _ after e (λ text ht e1.
+      step (host_in net place text) _ after e1 (λ stop hs e2.
+      let is = ok_is {E = DemandFault} (with_source before stop) after e2 in
+      subst (λ stops. AreHosts stops × (length stops ≤ suc (length before)) × (0 < length stops)) is (one_more before stop known (host_range net place text stop hs))))
+
+  each_listed : (n : ℕ) (before after : List Stop) (items : List Data) → AreHosts before → in_turn (λ i. source_at net place) n before items ≡ Ok after
+      → AreHosts after × (length after ≤ length before + length items) × (0 < length before + length items → 0 < length after)
+  unfolding in_turn
+  each_listed n before after [] known e =
+      let is = ok_is {E = DemandFault} before after e in
+      let same = ap length is in (subst AreHosts is known, omega arith, λ some. omega arith)
+  each_listed n before after (d ∷ items) known e =
+      step (source_at net place before d) (λ t. in_turn (λ i. source_at net place) (suc n) t items) after e
+      (λ t ht e1.
+      let one = listed_one before t d known ht in
+      let rest = each_listed (suc n) t after items one.0 e1 in
+      let shorter = one.1 in
+      let some = one.2 in
+      let few = rest.1 in
+      (rest.0, omega arith, λ _. rest.2 (omega arith)))
+
+  listed_range : (d : Data) (stops : List Stop) → listed_in net place d ≡ Ok stops → AreHostPorts net stops
+  unfolding listed_in
+  listed_range d stops e =
+      step (check net.wide (Shape From place)) _ stops e (λ _ hw e0.
+      step (need (list_in d) (Shape From place)) _ stops e0 (λ items hi e1.
+      step (check (nat_lt 0 (length items)) (Shape From place)) _ stops e1 (λ _ hs e2.
+      step (check (nat_le (length items) 1024) (TooMany From place)) _ stops e2 (λ _ hc e3.
+      let some = ltb-true 0 (length items) (checked (nat_lt 0 (length items)) (Shape From place) tt hs) in
+      let few = leb-true (length items) 1024 (checked (nat_le (length items) 1024) (TooMany From place) tt hc) in
+      let all = each_listed 0 [] stops items tt e3 in
+      let shorter = all.1 in
+      record { some = all.2 (omega arith); few = omega arith; each = all.0 }))))
+
+  sources_range : (d : Data) (text : Option (List ℕ)) (from : Option (List Stop)) → sources_in net place d text ≡ Ok from → IfSome from (AreHostPorts net)
+  sources_range d (Some text) from e = source_range net place text from e
+  sources_range d None from e =
+      step (listed_in net place d) some_hosts from e (λ stops hs f.
+      subst (λ o. IfSome o (AreHostPorts net)) (ok_is {E = DemandFault} (Some stops) from f) (listed_range d stops hs))
+
+  from_range : (d : Option Data) (from : Option (List Stop)) → from_in net place d ≡ Ok from → IfSome from (AreHostPorts net)
+  unfolding from_in
+  from_range None from e = subst (λ o. IfSome o (AreHostPorts net)) (ok_is {E = DemandFault} None from e) tt
+  from_range (Some d) from e = sources_range d (as_str d) from e
 
 test_of_range : (w : TestWord) (t : VlanTest) → test_of w ≡ Some t → IsTest t
 test_of_range word.Any t e = subst IsTest (same_Some _ _ e) tt
@@ -155,7 +218,7 @@ module _ (net : Network) (place : ℕ) where
       prefix_range text dst (needed (prefix_in text) (BadPrefix place) dst e1))
 
   record IsCover (cover : Cover) : Type 0 where
-    pub from : IfSome cover.from (λ s. IsIn s net.hosts)
+    pub from : IfSome cover.from (AreHostPorts net)
     pub vlan : IsTest cover.vlan
     pub dst : IsBlock cover.dst
 
@@ -178,16 +241,17 @@ module _ (net : Network) (place : ℕ) where
       step (cover_in net place d) _ demand e (λ cover hc e1.
       step (through_in net place (get (codes "through") d)) _ demand e1 (λ through hw e2.
       step (deliver_in place (get (codes "deliver") d)) _ demand e2 (λ deliver hl e3.
+      step (unknown_in net place d) _ demand e3 (λ _ hu e4.
       let made : DemandView = record { from = cover.from; vlan = cover.vlan; dst = cover.dst; through = through; deliver = deliver } in
       let covered = cover_range d cover hc in
       let way = through_range (get (codes "through") d) through hw in
-      subst (IsDemand net) (ok_is {E = DemandFault} made demand e3) (record {
+      subst (IsDemand net) (ok_is {E = DemandFault} made demand e4) (record {
         from = covered.from;
         vlan = covered.vlan;
         dst = covered.dst;
         through = way.0;
         few = way.1;
-      }))))
+      })))))
 
   item_range : (before after : List DemandView) (d : Data) → AreDemands net before → demand_at net place before d ≡ Ok after → AreDemands net after
   unfolding demand_at

@@ -12,9 +12,9 @@ use Rattle.flow_rules.specs.declared.rules.VlanTest.{VlanTest}
 use Rattle.flow_rules.specs.Patterns.{admits_vlan}
 use Rattle.dest_classes.specs.Classes.{ClassList}
 
--- a demand, with its waypoints in the order of visit
+-- a demand: its host ports, each once, where it names any; its waypoints in the order of visit
 pub record DemandView : Type 0 where
-  pub from : Option Stop
+  pub from : Option (List Stop)
   pub vlan : VlanTest
   pub dst : Block
   pub through : List SwitchId
@@ -30,9 +30,13 @@ pub record PacketDuties : Type 0 where
   pub chains : List (List SwitchId)
   pub arrive : Bool
 
--- whether a demand covers an entry and an address: its host port, if it names one, its VLAN test and its prefix do
+-- whether an entry is at one of the host ports; where none are named, any is
+abbrev pub admits_entry : Option (List Stop) → Place → Bool
+admits_entry from entry = option_map_or (λ stops. list_any (λ s. stop_eq s (stop_of entry)) stops) from true
+
+-- whether a demand covers an entry and an address: its host ports, if it names any, its VLAN test and its prefix do
 abbrev pub demand_covers : DemandView → Place → ℕ → Bool
-demand_covers d entry dst = option_map_or (λ s. stop_eq s (stop_of entry)) d.from true && admits_vlan d.vlan entry.vlan && in_block d.dst dst
+demand_covers d entry dst = admits_entry d.from entry && admits_vlan d.vlan entry.vlan && in_block d.dst dst
 
 -- the demands that cover an entry and an address
 abbrev pub demands_on : List DemandView → Place → ℕ → List DemandView

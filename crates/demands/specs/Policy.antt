@@ -1,5 +1,6 @@
 -- The reading of a policy, by the table of its members.
-use Rattle.std.specs.Prelude.{ℕ, ◌&&◌, List, [], ◌∷◌, ◌++◌, length, Bool, false, nat_lt, nat_le, Option, None, Some, option_and_then, option_map, Result, Ok, codes, if◌then◌else◌}
+use Rattle.std.specs.Prelude.{ℕ, ◌&&◌, List, [], ◌∷◌, ◌++◌, length, Bool, false, not, nat_lt, nat_le, Option, None, Some, is_some, option_and_then, option_map, Result, Ok, codes, if◌then◌else◌, ⊤}
+use Rattle.std.specs.List.{list_any}
 use Rattle.std.specs.Option.{option_or}
 use Rattle.std.specs.Str.{bytes_eq}
 use Rattle.serde_json.specs.Data.{Data}
@@ -7,11 +8,11 @@ use Rattle.serde_json.specs.Find.{get, as_str, as_bool}
 use Rattle.net_base.specs.Blocks.{Block}
 use Rattle.net_base.specs.declared.ids.SwitchId.{SwitchId}
 use Rattle.net_base.specs.declared.ids.Stop.{Stop}
-use Rattle.net_base.specs.declared.field.Field.TheVariants.{Top, Demands, From, Vlan, Dst, Through, Deliver}
+use Rattle.net_base.specs.declared.field.Field.TheVariants.{Top, Demands, From, Vlan, Dst, Through, Deliver, To, Deny}
 use Rattle.net_base.specs.Reading.{◌>>=◌, check, need, in_turn}
 use Rattle.net_base.specs.Text.{prefix_in}
 use Rattle.flat_json.specs.JsonTree.{is_object, text_at, whole_in, list_in, list_at, tree_in}
-use Rattle.topology.specs.Networks.{Network, switch_named, is_host, is_vlan_id}
+use Rattle.topology.specs.Networks.{Network, switch_named, stop_eq, is_host, is_vlan_id}
 use Rattle.topology.specs.References.{reference_parts}
 use Rattle.flow_rules.specs.declared.rules.VlanTest.{VlanTest}
 use Rattle.flow_rules.specs.declared.rules.VlanTest.TheVariants as test
@@ -39,13 +40,38 @@ host_in net place text = do
   need (host_with net switch parts.1) (NotHost place)
 
 -- `any`, or a host port
-unfoldable pub source_in : Network → ℕ → List ℕ → Result (Option Stop) DemandFault
-source_in net place text = if bytes_eq text (codes "any") then Ok None else (host_in net place text >>= λ stop. Ok (Some stop))
+unfoldable pub source_in : Network → ℕ → List ℕ → Result (Option (List Stop)) DemandFault
+source_in net place text = if bytes_eq text (codes "any") then Ok None else (host_in net place text >>= λ stop. Ok (Some (stop ∷ [])))
+
+-- a host port behind these, where it isn't among them
+abbrev pub with_source : List Stop → Stop → List Stop
+with_source before stop = if list_any (stop_eq stop) before then before else before ++ stop ∷ []
+
+-- one item of a list of port references, after these host ports
+unfoldable pub source_at : Network → ℕ → List Stop → Data → Result (List Stop) DemandFault
+source_at net place before d = do
+  text ← need (as_str d) (Shape From place)
+  stop ← host_in net place text
+  Ok (with_source before stop)
+
+-- in a wide network, a list of at least one and at most 1,024 port references
+unfoldable pub listed_in : Network → ℕ → Data → Result (List Stop) DemandFault
+listed_in net place d = do
+  _ ← check net.wide (Shape From place)
+  items ← need (list_in d) (Shape From place)
+  _ ← check (nat_lt 0 (length items)) (Shape From place)
+  _ ← check (nat_le (length items) 1024) (TooMany From place)
+  in_turn (λ i. source_at net place) 0 [] items
+
+-- the value of `from`, which may be this text
+abbrev pub sources_in : Network → ℕ → Data → Option (List ℕ) → Result (Option (List Stop)) DemandFault
+sources_in net place d (Some text) = source_in net place text
+sources_in net place d None = listed_in net place d >>= λ stops. Ok (Some stops)
 
 -- the member `from`, any host port where it is absent
-unfoldable pub from_in : Network → ℕ → Option Data → Result (Option Stop) DemandFault
+unfoldable pub from_in : Network → ℕ → Option Data → Result (Option (List Stop)) DemandFault
 from_in net place None = Ok None
-from_in net place (Some d) = need (as_str d) (Shape From place) >>= λ text. source_in net place text
+from_in net place (Some d) = sources_in net place d (as_str d)
 
 -- ---- vlan
 
@@ -96,6 +122,14 @@ unfoldable pub deliver_in : ℕ → Option Data → Result Bool DemandFault
 deliver_in place None = Ok false
 deliver_in place (Some d) = need (as_bool d) (Shape Deliver place)
 
+-- ---- to, deny
+
+-- in a wide network `to` and `deny` have a meaning that this version doesn't know, and must be absent
+unfoldable pub unknown_in : Network → ℕ → Data → Result ⊤ DemandFault
+unknown_in net place d = do
+  _ ← check (not (net.wide && is_some (get (codes "to") d))) (Shape To place)
+  check (not (net.wide && is_some (get (codes "deny") d))) (Shape Deny place)
+
 -- ---- a demand
 
 -- the prefix of the destinations
@@ -118,6 +152,7 @@ demand_in net place d = do
   cover ← cover_in net place d
   through ← through_in net place (get (codes "through") d)
   deliver ← deliver_in place (get (codes "deliver") d)
+  _ ← unknown_in net place d
   Ok (record { from = cover.from; vlan = cover.vlan; dst = cover.dst; through = through; deliver = deliver })
 
 -- ---- the file

@@ -3,6 +3,7 @@ use Rattle.std.specs.Prelude.{◌<◌, ◌≤◌, List, length, IfSome}
 use Rattle.std.specs.List.{AllByRecursion}
 use Rattle.net_base.specs.Blocks.{IsBlock}
 use Rattle.net_base.specs.Members.{IsIn}
+use Rattle.net_base.specs.declared.ids.Stop.{Stop}
 use Rattle.topology.specs.Networks.{Network, switch_count, IsVlanId}
 use Rattle.flow_rules.specs.declared.rules.VlanTest.{VlanTest}
 use Rattle.flow_rules.specs.declared.rules.VlanTest.TheVariants as test
@@ -13,9 +14,15 @@ abbrev pub IsTest : VlanTest → Type 0
 IsTest (test.Id id) = IsVlanId id
 IsTest _ = Unit {0}
 
+-- at least one host port of the network, and at most 1,024
+pub record AreHostPorts (net : Network) (stops : List Stop) : Type 0 where
+  pub some : 0 < length stops
+  pub few : length stops ≤ 1024
+  pub each : AllByRecursion (λ s. IsIn s net.hosts) stops
+
 -- a demand of the network
 pub record IsDemand (net : Network) (d : DemandView) : Type 0 where
-  pub from : IfSome d.from (λ s. IsIn s net.hosts)
+  pub from : IfSome d.from (AreHostPorts net)
   pub vlan : IsTest d.vlan
   pub dst : IsBlock d.dst
   pub through : AllByRecursion (λ s. s.0 < switch_count net) d.through

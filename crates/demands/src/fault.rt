@@ -30,7 +30,7 @@ pub enum DemandFault {
     /// The text is no prefix.
     #[error("BadPrefix")]
     BadPrefix(u32),
-    /// More than 512 demands, or more than 16 waypoints of a demand.
+    /// More than 512 demands, or of a demand more than 16 waypoints or 1,024 port references.
     #[error("TooMany")]
     TooMany(Field, u32),
     /// Memory was wanting.

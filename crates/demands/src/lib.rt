@@ -4,6 +4,7 @@
 mod chains;
 mod class_sets;
 mod fault;
+mod hosts;
 pub mod laws;
 mod policy;
 mod read;
@@ -13,16 +14,17 @@ mod stored;
 use dest_classes::ClassMap;
 pub use fault::DemandFault;
 use flow_rules::VlanTest;
-use net_base::{Prefix, Stop, SwitchId};
+use hosts::Hosts;
+use net_base::{Prefix, SwitchId};
 pub use policy::no_demands;
 pub use read::read_demands;
 use std::marker::Model;
 
-/// Which packets a demand speaks of: those that enter at the host port, or at any, whose VLAN the test admits, to an
+/// Which packets a demand speaks of: those that enter at one of the host ports, or at any, whose VLAN the test admits, to an
 /// address in the prefix.
-#[derive(Clone, Copy)]
+#[derive(Drop)]
 pub(crate) struct Cover {
-    from: Option<Stop>,
+    from: Option<Hosts>,
     vlan: VlanTest,
     dst: Prefix,
 }

@@ -1,12 +1,9 @@
 //! Policies as lists of demands, and what a demand covers.
-ghost use Rattle.std.specs.Prelude.{◌≡◌, ◌<◌, ◌≤◌, ◌&&◌, ◌++◌, ◌∷◌, [], Some, true, length, map, option_map, slice_get, IfOk, if◌then◌else◌, is_ok};
+ghost use Rattle.std.specs.Prelude.{◌≡◌, ◌<◌, ◌≤◌, ◌&&◌, ◌++◌, ◌∷◌, [], Some, length, map, option_map, slice_get, IfOk, if◌then◌else◌, is_ok};
 ghost use Rattle.std.specs.List.{AllByRecursion, list_any};
 ghost use Rattle.net_base.specs.Members.{IsIn};
 ghost use Rattle.demands.specs.Covers.{is_covered};
-ghost use Rattle.demands.specs.Duties.{demand_covers};
-ghost use Rattle.std.specs.Option.{option_map_or};
-ghost use Rattle.topology.specs.Networks.{stop_eq};
-ghost use Rattle.net_base.specs.Places.{stop_of};
+ghost use Rattle.demands.specs.Duties.{admits_entry, demand_covers};
 ghost use Rattle.flow_rules.specs.Patterns.{admits_vlan};
 
 use crate::{Cover, Demand, Demands};
@@ -14,16 +11,6 @@ use dest_classes::Class;
 use flow_rules::admits_vlan;
 use net_base::{Memory, Place, Prefix, Stop};
 use std::alloc::{AllocFailed, Global};
-
-/// Whether any host port is admitted, or this one.
-fn admits_host(from: Option<Stop>, host: Stop) -> bool
-    ensures { result ≡ option_map_or (λ s. stop_eq s host) from true }
-{
-    match from {
-        None => true,
-        Some(stop) => stop.switch.0 == host.switch.0 && stop.port.0 == host.port.0,
-    }
-}
 
 impl Cover {
     /// Whether packets that enter there, to this address, are spoken of.
@@ -36,14 +23,36 @@ impl Cover {
     /// Whether packets that enter there are spoken of, to some addresses.
     pub(crate) fn speaks_of_entry(&self, entry: Place) -> bool
         ensures { result
-            ≡ (option_map_or (λ s. stop_eq s (stop_of entry)) self.now.from true
-            && admits_vlan self.now.vlan entry.vlan) }
+            ≡ (admits_entry self.now.from entry && admits_vlan self.now.vlan entry.vlan) }
     {
-        let host = Stop {
-            switch: entry.switch,
-            port: entry.port,
+        self.admits_entry(entry) && admits_vlan(self.vlan, entry.vlan)
+    }
+
+    /// Whether the entry is at one of its host ports, or it speaks of packets of any.
+    fn admits_entry(&self, entry: Place) -> bool
+        ensures { result ≡ admits_entry self.now.from entry }
+    {
+        match &self.from {
+            None => true,
+            Some(hosts) => hosts.has(Stop {
+                switch: entry.switch,
+                port: entry.port,
+            }),
+        }
+    }
+
+    fn copy(&self) -> Result<Cover, Memory>
+        ensures { IfOk result (λ c. c ≡ self.now) }
+    {
+        let from = match &self.from {
+            None => None,
+            Some(hosts) => Some(hosts.copy()?),
         };
-        admits_host(self.from, host) && admits_vlan(self.vlan, entry.vlan)
+        Ok(Cover {
+            from,
+            vlan: self.vlan,
+            dst: self.dst,
+        })
     }
 }
 
@@ -52,9 +61,10 @@ impl Demand {
         ensures { IfOk result (λ d. d ≡ self.now) }
     {
         let alloc = *self.through.allocator();
+        let cover = self.cover.copy()?;
         let through = Vec::from_slice(alloc, self.through.as_slice())?;
         Ok(Demand {
-            cover: self.cover,
+            cover,
             through,
             deliver: self.deliver,
         })

@@ -7,6 +7,7 @@ ghost use Rattle.demands.specs.Policy as policy;
 ghost use Rattle.demands.specs.Ranges.{AreDemands};
 
 use crate::fault::DemandFault;
+use crate::hosts::Hosts;
 use crate::{Cover, Demand, Demands};
 use flat_json::{Node, Tree, parse_tree};
 use flow_rules::VlanTest;
@@ -17,6 +18,9 @@ use topology::{Net, is_vlan_id, reference_parts};
 
 /// The greatest number of demands of a policy.
 const MAX_DEMANDS: usize = 512;
+
+/// The greatest number of port references of a demand, in a wide network.
+const MAX_SOURCES: usize = 1024;
 
 /// The greatest number of waypoints of a demand.
 const MAX_WAYPOINTS: usize = 16;
@@ -55,35 +59,110 @@ fn read_host(net: &Net, place: u32, text: &str) -> Result<Stop, DemandFault>
 
 /// Reads `any` or a host port.
 #[tactic(auto, unfolding(crate::specs::Policy::source_in))]
-fn read_source(net: &Net, place: u32, text: &str) -> Result<Option<Stop>, DemandFault>
+fn read_source(
+    alloc: Global,
+    net: &Net,
+    place: u32,
+    text: &str,
+) -> Result<Option<Hosts>, DemandFault>
     ensures { Gives Memory (λ o. o) result (policy.source_in net.now place text.now) }
 {
     if text == "any" {
         return Ok(None);
     }
     let stop = read_host(net, place, text)?;
-    Ok(Some(stop))
+    let hosts = Hosts::one(alloc, stop)?;
+    Ok(Some(hosts))
+}
+
+/// Reads one item of a list of port references.
+#[tactic(auto, unfolding(crate::specs::Policy::source_at))]
+fn read_listed(
+    net: &Net,
+    place: u32,
+    hosts: &mut Hosts,
+    tree: &Tree<'_>,
+    item: &Node,
+) -> Result<(), DemandFault>
+    ensures { MatchResult result
+        (λ _. policy.source_at net.now place hosts.old (data_of tree.now item.now) ≡ Ok hosts.new)
+        (λ e. Fails Memory e (policy.source_at net.now place hosts.old
+        (data_of tree.now item.now))) }
+{
+    let text = tree
+        .as_str(item)
+        .ok_or(DemandFault::Shape(Field::From, place))?;
+    let stop = read_host(net, place, text)?;
+    hosts.put(stop)?;
+    Ok(())
+}
+
+/// Reads the items of a list of port references, one after the other.
+fn read_each_listed(
+    alloc: Global,
+    net: &Net,
+    place: u32,
+    tree: &Tree<'_>,
+    items: &[Node],
+) -> Result<Hosts, DemandFault>
+    ensures { Gives Memory (λ h. h) result
+        (in_turn (λ i. policy.source_at net.now place) 0 [] (map (data_of tree.now) items.now)) }
+{
+    let mut hosts = Hosts::none(alloc);
+    for item in items {
+        read_listed(net, place, &mut hosts, tree, item)?;
+    }
+    Ok(hosts)
+}
+
+/// Reads a list of port references, which a wide network may have.
+#[tactic(auto, unfolding(crate::specs::Policy::listed_in))]
+fn read_list(
+    alloc: Global,
+    net: &Net,
+    place: u32,
+    tree: &Tree<'_>,
+    value: &Node,
+) -> Result<Hosts, DemandFault>
+    ensures { Gives Memory (λ h. h) result
+        (policy.listed_in net.now place (data_of tree.now value.now)) }
+{
+    if !net.is_wide() {
+        return Err(DemandFault::Shape(Field::From, place));
+    }
+    let items = tree
+        .list_in(value)
+        .ok_or(DemandFault::Shape(Field::From, place))?;
+    if items.is_empty() {
+        return Err(DemandFault::Shape(Field::From, place));
+    }
+    if items.len() > MAX_SOURCES {
+        return Err(DemandFault::TooMany(Field::From, place));
+    }
+    read_each_listed(alloc, net, place, tree, items)
 }
 
 /// Reads the member `from`.
 #[tactic(auto, unfolding(crate::specs::Policy::from_in))]
 fn read_from(
+    alloc: Global,
     net: &Net,
     place: u32,
     tree: &Tree<'_>,
     member: Option<&Node>,
-) -> Result<Option<Stop>, DemandFault>
+) -> Result<Option<Hosts>, DemandFault>
     ensures { Gives Memory (λ o. o) result
         (policy.from_in net.now place (option_map (λ v. data_of tree.now v.now) member.entry)) }
 {
     match member {
         None => Ok(None),
-        Some(value) => {
-            let text = tree
-                .as_str(value)
-                .ok_or(DemandFault::Shape(Field::From, place))?;
-            read_source(net, place, text)
-        }
+        Some(value) => match tree.as_str(value) {
+            Some(text) => read_source(alloc, net, place, text),
+            None => {
+                let hosts = read_list(alloc, net, place, tree, value)?;
+                Ok(Some(hosts))
+            }
+        },
     }
 }
 
@@ -231,6 +310,22 @@ fn read_deliver(place: u32, tree: &Tree<'_>, member: Option<&Node>) -> Result<bo
     }
 }
 
+/// Refuses the members `to` and `deny` of a wide network. They have a meaning there, and this version has no such demands yet. In
+/// a narrow network they aren't named, and passed over.
+#[tactic(auto, unfolding(crate::specs::Policy::unknown_in))]
+fn refuse_unknown(net: &Net, place: u32, tree: &Tree<'_>, item: &Node) -> Result<(), DemandFault>
+    ensures { Gives Memory (λ _. tt) result
+        (policy.unknown_in net.now place (data_of tree.now item.now)) }
+{
+    if net.is_wide() && tree.get(item, "to").is_some() {
+        return Err(DemandFault::Shape(Field::To, place));
+    }
+    if net.is_wide() && tree.get(item, "deny").is_some() {
+        return Err(DemandFault::Shape(Field::Deny, place));
+    }
+    Ok(())
+}
+
 /// Reads the prefix of the destinations.
 #[tactic(auto, unfolding(crate::specs::Policy::dst_in))]
 fn read_dst(place: u32, tree: &Tree<'_>, item: &Node) -> Result<Prefix, DemandFault>
@@ -244,11 +339,17 @@ fn read_dst(place: u32, tree: &Tree<'_>, item: &Node) -> Result<Prefix, DemandFa
 
 /// Reads the packets that a demand speaks of.
 #[tactic(auto, unfolding(crate::specs::Policy::cover_in))]
-fn read_cover(net: &Net, place: u32, tree: &Tree<'_>, item: &Node) -> Result<Cover, DemandFault>
+fn read_cover(
+    alloc: Global,
+    net: &Net,
+    place: u32,
+    tree: &Tree<'_>,
+    item: &Node,
+) -> Result<Cover, DemandFault>
     ensures { Gives Memory (λ c. c) result
         (policy.cover_in net.now place (data_of tree.now item.now)) }
 {
-    let from = read_from(net, place, tree, tree.get(item, "from"))?;
+    let from = read_from(alloc, net, place, tree, tree.get(item, "from"))?;
     let vlan = read_test(place, tree, tree.get(item, "vlan"))?;
     let dst = read_dst(place, tree, item)?;
     Ok(Cover { from, vlan, dst })
@@ -266,9 +367,10 @@ fn read_demand(
     ensures { Gives Memory (λ d. d) result
         (policy.demand_in net.now place (data_of tree.now item.now)) }
 {
-    let cover = read_cover(net, place, tree, item)?;
+    let cover = read_cover(alloc, net, place, tree, item)?;
     let through = read_through(alloc, net, place, tree, tree.get(item, "through"))?;
     let deliver = read_deliver(place, tree, tree.get(item, "deliver"))?;
+    refuse_unknown(net, place, tree, item)?;
     Ok(Demand {
         cover,
         through,
