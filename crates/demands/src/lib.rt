@@ -30,7 +30,7 @@ pub(crate) struct Cover {
 }
 
 /// A demand: which packets it speaks of, the waypoints that they must visit in this order where they leave, and whether
-/// they must arrive.
+/// they must arrive. It names a host port, in a wide network up to 1,024, or speaks of packets from any.
 #[derive(Drop)]
 pub struct Demand {
     cover: Cover,

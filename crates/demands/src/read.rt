@@ -310,8 +310,8 @@ fn read_deliver(place: u32, tree: &Tree<'_>, member: Option<&Node>) -> Result<bo
     }
 }
 
-/// Refuses the members `to` and `deny` of a wide network. They have a meaning there, and this version has no such demands yet. In
-/// a narrow network they aren't named, and passed over.
+/// Refuses the members `to` and `deny` in a wide network, where they have a meaning: this version has no such demands yet. In a
+/// narrow network they aren't named, and passed over.
 #[tactic(auto, unfolding(crate::specs::Policy::unknown_in))]
 fn refuse_unknown(net: &Net, place: u32, tree: &Tree<'_>, item: &Node) -> Result<(), DemandFault>
     ensures { Gives Memory (λ _. tt) result
@@ -451,7 +451,8 @@ fn read_file(alloc: Global, net: &Net, bytes: &[u8]) -> Result<Demands, DemandFa
     read_members(alloc, net, &tree, tree.top())
 }
 
-/// The demands that the bytes describe, or the first refusal of the table of members.
+/// The demands that the bytes describe, or the first refusal of the table of members. In a wide network a demand may name a list
+/// of host ports. Lists in `through`, and the members `to` and `deny` of a wide network, aren't there yet, and are refused.
 pub fn read_demands(alloc: Global, net: &Net, bytes: &[u8]) -> Result<Demands, DemandFault>
     ensures read { Gives Memory (λ d. d) result (policy.demands_in net.now bytes.now) }
     ensures in_range { IfOk result (λ d. AreDemands net.now d) }

@@ -1,6 +1,6 @@
 -- The classes of the ring, and the duties of some of them.
-use Rattle.std.proofs.Common.{◌≡◌, ℕ, ◌+◌, ◌*◌, ◌<◌, ◌≤◌, ◌&&◌, true, not, length, map, refl, sym, ap, subst, inl, inr, arith}
-use Rattle.std.specs.Prelude.{IsTrue, ◌==◌}
+use Rattle.std.proofs.Common.{◌≡◌, ℕ, ◌+◌, ◌*◌, ◌<◌, ◌≤◌, ◌&&◌, true, false, not, length, map, refl, sym, ap, subst, inl, inr, arith}
+use Rattle.std.specs.Prelude.{IsTrue, ◌==◌, ◌||◌}
 use Rattle.std.proofs.lemmas.Bool.{cases_eq, ne_eqb}
 use Rattle.net_base.specs.Members.{IsIn}
 use Rattle.net_base.specs.Places.{stop_of}
@@ -77,5 +77,5 @@ module _ (n : ℕ) (some : 4 ≤ n) where
       let there : IsIn d (ring_demands n) =
       in_flat_map (λ k. map (ring_demand k) (others k)) i d (numbers_below n) (in_range 0 n i (omega arith) (omega arith))
       (in_map (ring_demand i) 0 (others i) (in_filter (λ j. not (j == i)) 0 destinations (inl refl) (ap not (ne_eqb 0 i (λ e. omega arith))))) in
-      let covers : demand_covers d entry (first_of 0) ≡ true = ap (λ b. b && true && true) (stop_eq-refl (ring_stop i 1)) in
+      let covers : demand_covers d entry (first_of 0) ≡ true = ap (λ b. (b || false) && true && true) (stop_eq-refl (ring_stop i 1)) in
       any_in (λ (x : DemandView). x.deliver) d (demands_on (ring_demands n) entry (first_of 0)) (in_filter (λ x. demand_covers x entry (first_of 0)) d (ring_demands n) there covers) refl

@@ -2,7 +2,6 @@
 use Rattle.std.proofs.Common.{◌≡◌, ℕ, zero, suc, ◌<◌, ◌≤◌, ◌^◌, ◌+◌, ◌-◌, ◌*◌, true, List, [], ◌∷◌, ◌++◌, length, map, Some, refl, sym, ◌∙◌, subst, ap, arith, inl, inr}
 use Rattle.std.specs.Prelude.{slice_get, slice_index, ◌&&◌, ◌||◌}
 use Rattle.std.specs.List.{AllByRecursion, list_any}
-use Rattle.std.specs.Option.{option_map_or}
 use Rattle.std.proofs.lemmas.Bool.{cases_lt}
 use Rattle.net_base.specs.Blocks.{Block, in_block, IsSameClass}
 use Rattle.net_base.specs.Members.{IsIn}
@@ -15,7 +14,7 @@ use Rattle.net_base.proofs.WalkLaws.{walk_weaker}
 use Rattle.net_base.proofs.MemberLaws.{each_at, each_from_in, each_get_or, in_map}
 use Rattle.net_base.proofs.ItemLaws.{get_from_in}
 use Rattle.net_base.proofs.ListLaws.{in_flat_map}
-use Rattle.topology.specs.Networks.{Network, IsEntry, stop_eq}
+use Rattle.topology.specs.Networks.{Network, IsEntry}
 use Rattle.flow_rules.specs.Patterns.{admits_vlan}
 use Rattle.flow_rules.specs.Tables.{rules_at}
 use Rattle.flow_rules.specs.declared.rules.Rule.{Rule}
@@ -30,7 +29,7 @@ use Rattle.dest_classes.specs.Classes.{ClassList, atom_count, boundaries}
 use Rattle.dest_classes.specs.Atoms.{IsAtomOf}
 use Rattle.dest_classes.proofs.AtomLaws.{are_firsts}
 use Rattle.dest_classes.proofs.MapLaws.{right_class, class_of_places, number_fits}
-use Rattle.demands.specs.Duties.{DemandView, PacketDuties, demand_covers, duties_of}
+use Rattle.demands.specs.Duties.{DemandView, PacketDuties, admits_entry, demand_covers, duties_of}
 use Rattle.demands.proofs.DutyLaws.{duties_same}
 use Rattle.config_check.specs.Broken.{BreaksSo, EndsSo}
 use Rattle.config_check.specs.Everywhere.{HasPrefixes}
@@ -100,7 +99,7 @@ module _ (net : Network) (tables : List (List Rule)) (demands : List DemandView)
   covered_same : (entry : Place) (ds : List DemandView) → AllByRecursion (λ d. in_block d.dst a ≡ in_block d.dst b) ds → list_any (λ d. demand_covers d entry a) ds ≡ list_any (λ d. demand_covers d entry b) ds
   covered_same entry [] alike = refl
   covered_same entry (d ∷ ds) alike =
-      ap (λ t. (option_map_or (λ s. stop_eq s (stop_of entry)) d.from true && admits_vlan d.vlan entry.vlan && t) || list_any (λ q. demand_covers q entry a) ds) alike.0
+      ap (λ t. (admits_entry d.from entry && admits_vlan d.vlan entry.vlan && t) || list_any (λ q. demand_covers q entry a) ds) alike.0
       ∙ ap (λ t. demand_covers d entry b || t) (covered_same entry ds alike.1)
 
   so_same : (entry : Place) (trace : Trace) → EndsSo net tables a entry trace → EndsSo net tables b entry trace

@@ -2,8 +2,10 @@
 use Rattle.std.proofs.Common.{◌≡◌, ℕ, zero, suc, ◌+◌, ◌*◌, ◌^◌, ◌<◌, ◌≤◌, ◌⊎◌, true, false, cond, List, [], ◌∷◌, map, inl, inr, refl, sym, ap, subst, ◌∙◌, arith}
 use Rattle.std.specs.Prelude.{◌==◌, IsTrue, filter, not}
 use Rattle.std.specs.List.{AllByRecursion, range_with_len}
+use Rattle.std.proofs.Math.Bool.{or-false}
 use Rattle.std.proofs.lemmas.Bool.{cases_eq, and_parts, leb-true, ltb-true, eqb-true, eqb-false, not-true}
 use Rattle.std.proofs.lemmas.List.FromFn.{get_or-map-range_with_len}
+use Rattle.topology.specs.Networks.{stop_eq}
 use Rattle.net_base.specs.Blocks.{in_block}
 use Rattle.net_base.specs.Members.{IsIn, IsDistinct, IsSubsequence}
 use Rattle.net_base.specs.Walks.{end_of}
@@ -110,7 +112,8 @@ not_asked n i vlan dst own asks =
     let (there, covers) = in_from_filter (λ (x : DemandView). demand_covers x (place_at i 1 vlan) dst) d (ring_demands n) on in
     let r = ring_demand_of n d there in
     let (sources, block) = and_parts _ _ (subst (λ (x : DemandView). demand_covers x (place_at i 1 vlan) dst ≡ true) r.is covers) in
-    let (host, _) = and_parts _ _ sources in
+    let (named, _) = and_parts _ _ sources in
+    let host : stop_eq (ring_stop r.i 1) (ring_stop i 1) ≡ true = sym (or-false (stop_eq (ring_stop r.i 1) (ring_stop i 1))) ∙ named in
     let (switch, _) = and_parts _ _ host in
     let same : r.i ≡ i = eqb-true r.i i switch in
     let (_, apart) = in_from_filter (λ k. not (k == r.i)) r.j destinations r.other in

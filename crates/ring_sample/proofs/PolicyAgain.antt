@@ -13,7 +13,7 @@ use Rattle.net_base.proofs.MemberLaws.{each_filter}
 use Rattle.net_base.proofs.Prefixes.{prefix_in-text}
 use Rattle.flat_json.proofs.JsonTree.{list_of-items_of}
 use Rattle.demands.specs.Duties.{DemandView}
-use Rattle.demands.specs.Policy.{host_in, source_in, from_in, test_in, through_in, deliver_in, dst_in, cover_in, demand_in, demand_at, members_in, demands_in}
+use Rattle.demands.specs.Policy.{host_in, source_in, from_in, test_in, through_in, deliver_in, unknown_in, dst_in, cover_in, demand_in, demand_at, members_in, demands_in}
 use Rattle.ring_sample.specs.Ring.{numbers_below, ring_name, ring_network, destinations, others, ring_prefix, ring_demand, ring_demands}
 use Rattle.ring_sample.specs.RingTrees.{port_text, demand_tree, policy_tree}
 use Rattle.ring_sample.proofs.Ranges.{flat_more, group_turns}
@@ -43,7 +43,7 @@ module _ (n : ℕ) (few : n ≤ most_switches) where
     host_again place = rw (parts_again i 1 (omega arith), named n i few lt, host_is n i lt) refl
 
     demand_again : (place j : ℕ) (before : List DemandView) → length before < 512 → j < 4 → demand_at (ring_network n) place before (demand_tree i j) ≡ Ok (before ++ ring_demand i j ∷ [])
-    unfolding demand_at demand_in cover_in dst_in from_in source_in test_in through_in deliver_in
+    unfolding demand_at demand_in cover_in dst_in from_in source_in test_in through_in deliver_in unknown_in ring_network
     demand_again place j before short within =
         rw (lt-ltb (length before) 512 short, not_any i, host_again place, prefix_in-text (ring_prefix j) (prefix_block j within)) refl
 

@@ -73,7 +73,7 @@ ring_tables n port = map (ring_table port) (numbers_below n)
 
 -- packets from the host at switch i to destination j must arrive
 abbrev pub ring_demand : ℕ → ℕ → DemandView
-ring_demand i j = record { from = Some (ring_stop i 1); vlan = Any; dst = ring_prefix j; through = []; deliver = true }
+ring_demand i j = record { from = Some (ring_stop i 1 ∷ []); vlan = Any; dst = ring_prefix j; through = []; deliver = true }
 
 -- the destinations at other switches
 abbrev pub others : ℕ → List ℕ

@@ -145,7 +145,7 @@ fits = record { tags = omega arith; room = λ s inside. within s.0 inside }
 
 -- what enters at s for P must pass w and arrive
 abbrev demands : List DemandView
-demands = record { from = Some (stop 0 1); vlan = test.Any; dst = P; through = sw 2 ∷ []; deliver = true } ∷ []
+demands = record { from = Some (stop 0 1 ∷ []); vlan = test.Any; dst = P; through = sw 2 ∷ []; deliver = true } ∷ []
 
 abbrev classes : ClassList
 classes = classes_for (two_phase_task net_L L_old L_new demands)
