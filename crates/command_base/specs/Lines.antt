@@ -45,7 +45,7 @@ plan_words f = record { number = plan_fault.fault_number f; name = plan_fault.fa
 -- a member, if there is one, behind a space
 abbrev pub field_text : Option Field → List ℕ
 field_text None = []
-field_text (Some field) = codes " " ++ field_name field
+field_text (Some member) = codes " " ++ field_name member
 
 -- on a file that isn't read
 abbrev pub bad_line : FileKind → FaultWords → List ℕ

@@ -14,7 +14,7 @@ of_json json.Memory = Memory
 -- the number of a refusal; want of memory is none
 abbrev pub fault_number : ConfigFault → ℕ
 fault_number NotJson = 1
-fault_number (Shape field place) = 2
+fault_number (Shape member place) = 2
 fault_number (UnknownSwitch place) = 3
 fault_number (BadPriority place) = 4
 fault_number (BadPort place) = 5
@@ -30,7 +30,7 @@ fault_number Memory = 0
 -- the printed word
 abbrev pub fault_name : ConfigFault → List ℕ
 fault_name NotJson = codes "NotJson"
-fault_name (Shape field place) = codes "Shape"
+fault_name (Shape member place) = codes "Shape"
 fault_name (UnknownSwitch place) = codes "UnknownSwitch"
 fault_name (BadPriority place) = codes "BadPriority"
 fault_name (BadPort place) = codes "BadPort"
@@ -45,13 +45,13 @@ fault_name Memory = codes "Memory"
 
 -- the member that is named beside it
 abbrev pub fault_field : ConfigFault → Option Field
-fault_field (Shape field place) = Some field
+fault_field (Shape member place) = Some member
 fault_field other = None
 
 -- the place; a fault of the whole file has place 0, a table that is too long the number of its switch
 abbrev pub fault_place : ConfigFault → ℕ
 fault_place NotJson = 0
-fault_place (Shape field place) = place
+fault_place (Shape member place) = place
 fault_place (UnknownSwitch place) = place
 fault_place (BadPriority place) = place
 fault_place (BadPort place) = place

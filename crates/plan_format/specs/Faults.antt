@@ -14,38 +14,38 @@ of_json json.Memory = Memory
 -- the number of a refusal; want of memory is none
 abbrev pub fault_number : PlanFault → ℕ
 fault_number NotJson = 1
-fault_number (Shape field place) = 2
+fault_number (Shape member place) = 2
 fault_number BadFormat = 3
 fault_number (UnknownSwitch place) = 4
 fault_number (BadRule place) = 5
 fault_number (BadIndex place) = 6
-fault_number (TooMany field) = 7
+fault_number (TooMany member) = 7
 fault_number Memory = 0
 
 -- the printed word
 abbrev pub fault_name : PlanFault → List ℕ
 fault_name NotJson = codes "NotJson"
-fault_name (Shape field place) = codes "Shape"
+fault_name (Shape member place) = codes "Shape"
 fault_name BadFormat = codes "BadFormat"
 fault_name (UnknownSwitch place) = codes "UnknownSwitch"
 fault_name (BadRule place) = codes "BadRule"
 fault_name (BadIndex place) = codes "BadIndex"
-fault_name (TooMany field) = codes "TooMany"
+fault_name (TooMany member) = codes "TooMany"
 fault_name Memory = codes "Memory"
 
 -- the member that is named beside it
 abbrev pub fault_field : PlanFault → Option Field
-fault_field (Shape field place) = Some field
-fault_field (TooMany field) = Some field
+fault_field (Shape member place) = Some member
+fault_field (TooMany member) = Some member
 fault_field other = None
 
 -- the place; a fault of the whole file has place 0
 abbrev pub fault_place : PlanFault → ℕ
 fault_place NotJson = 0
-fault_place (Shape field place) = place
+fault_place (Shape member place) = place
 fault_place BadFormat = 0
 fault_place (UnknownSwitch place) = place
 fault_place (BadRule place) = place
 fault_place (BadIndex place) = place
-fault_place (TooMany field) = 0
+fault_place (TooMany member) = 0
 fault_place Memory = 0

@@ -14,7 +14,7 @@ of_json json.Memory = Memory
 -- the number of a refusal; want of memory is none
 abbrev pub fault_number : NetFault → ℕ
 fault_number NotJson = 1
-fault_number (Shape field place) = 2
+fault_number (Shape member place) = 2
 fault_number (BadName place) = 3
 fault_number (DoubleName place) = 4
 fault_number (UnknownSwitch place) = 5
@@ -24,7 +24,7 @@ fault_number (BadVlan place) = 8
 fault_number (VlanTwice place) = 9
 fault_number BadTags = 10
 fault_number (BadCapacity place) = 11
-fault_number (TooMany field place) = 12
+fault_number (TooMany member place) = 12
 fault_number BadFormat = 13
 fault_number (BadField place) = 14
 fault_number Memory = 0
@@ -32,7 +32,7 @@ fault_number Memory = 0
 -- the printed word
 abbrev pub fault_name : NetFault → List ℕ
 fault_name NotJson = codes "NotJson"
-fault_name (Shape field place) = codes "Shape"
+fault_name (Shape member place) = codes "Shape"
 fault_name (BadName place) = codes "BadName"
 fault_name (DoubleName place) = codes "DoubleName"
 fault_name (UnknownSwitch place) = codes "UnknownSwitch"
@@ -42,21 +42,21 @@ fault_name (BadVlan place) = codes "BadVlan"
 fault_name (VlanTwice place) = codes "VlanTwice"
 fault_name BadTags = codes "BadTags"
 fault_name (BadCapacity place) = codes "BadCapacity"
-fault_name (TooMany field place) = codes "TooMany"
+fault_name (TooMany member place) = codes "TooMany"
 fault_name BadFormat = codes "BadFormat"
 fault_name (BadField place) = codes "BadField"
 fault_name Memory = codes "Memory"
 
 -- the member that is named beside it
 abbrev pub fault_field : NetFault → Option Field
-fault_field (Shape field place) = Some field
-fault_field (TooMany field place) = Some field
+fault_field (Shape member place) = Some member
+fault_field (TooMany member place) = Some member
 fault_field other = None
 
 -- the place; a fault of the whole file has place 0
 abbrev pub fault_place : NetFault → ℕ
 fault_place NotJson = 0
-fault_place (Shape field place) = place
+fault_place (Shape member place) = place
 fault_place (BadName place) = place
 fault_place (DoubleName place) = place
 fault_place (UnknownSwitch place) = place
@@ -66,7 +66,7 @@ fault_place (BadVlan place) = place
 fault_place (VlanTwice place) = place
 fault_place BadTags = 0
 fault_place (BadCapacity place) = place
-fault_place (TooMany field place) = place
+fault_place (TooMany member place) = place
 fault_place BadFormat = 0
 fault_place (BadField place) = place
 fault_place Memory = 0
