@@ -252,6 +252,11 @@ def is_met(chain: Sequence[str], switches: Sequence[str]) -> bool:
     return all(waypoint in rest for waypoint in chain)
 
 
+def is_entry(source: str | list[str], entry: str) -> bool:
+    """Whether a demand's member `from` is any port, this one, or a list with it."""
+    return entry in source if isinstance(source, list) else source in ("any", entry)
+
+
 def faults(
     policy: dict[str, Any], entry: str, vlan: str, address: int, stops: Sequence[str], end: tuple[str, str] | None
 ) -> Iterator[str]:
@@ -260,7 +265,7 @@ def faults(
     demands = [
         one
         for one in policy["demands"]
-        if one.get("from", "any") in ("any", entry) and fits({**one, "in_port": "any"}, None, vlan, address)
+        if is_entry(one.get("from", "any"), entry) and fits({**one, "in_port": "any"}, None, vlan, address)
     ]
     has_looped = len(set(switches)) < len(switches)
     if has_looped:

@@ -10,7 +10,7 @@ import os
 from planner_tools import network as nets
 from planner_tools import program
 from planner_tools.files import NotJson, did_you_mean, member_path, nearest, read_json
-from planner_tools.members import MEMBERS, OF_OTHERS, UNSAYABLE
+from planner_tools.members import MEMBERS, OF_OTHERS, UNSAYABLE, is_wide, looked_at, members
 
 TYPE_CHECKING = False
 if TYPE_CHECKING:
@@ -70,7 +70,7 @@ def cautions(run: Run) -> list[Caution]:
     found = []
     for word, file in run.files.items():
         if word in KIND_OF_WORD and size_of(file) <= LONGEST.get(word, LONGEST_OTHER):
-            found += member_cautions(KIND_OF_WORD[word], file)
+            found += member_cautions(KIND_OF_WORD[word], file, run.files.get("TOPO"))
     config = JUDGING.get(run.command.name)
     if config and all(
         size_of(run.files[word]) <= LONGEST_OTHER for word in ("TOPO", config, "POLICY") if word in run.files
@@ -88,8 +88,9 @@ def size_of(file: Given) -> int:
 
 # ---- members that count for nothing
 
-def member_cautions(kind: str, file: Given) -> list[Caution]:
-    """Warnings about members that no format knows, and members that stand twice. Remarks are passed over."""
+def member_cautions(kind: str, file: Given, topology: Given | None = None) -> list[Caution]:
+    """Warnings about members that no format knows, and members that stand twice. Remarks are passed over. Whether the
+    network is wide says its topology; without one it is narrow."""
     try:
         with open(file.real, "rb") as source:
             data = source.read()
@@ -110,16 +111,29 @@ def member_cautions(kind: str, file: Given) -> list[Caution]:
                 " in the right order?"
             )
         ]
-    look_at_members(text, text.root, (), kind, found)
+    wide = is_wide_in(file if kind == "topology" else topology)
+    look_at_members(text, text.root, (), kind, wide, found)
     for list_name, inner in INNER[kind].items():
         for way, item in objects_in(text.root.member(list_name), (list_name,)):
-            look_at_members(text, item, way, inner, found)
+            look_at_members(text, item, way, inner, wide, found)
     return found
 
 
+def is_wide_in(topology: Given | None) -> bool:
+    """Whether the network of a topology is wide. One that isn't there or can't be read makes none."""
+    try:
+        if topology is None:
+            return False
+        with open(topology.real, encoding="utf-8") as source:
+            value = json.load(source)
+    except (OSError, ValueError, RecursionError):
+        return False
+    return isinstance(value, dict) and is_wide(value.get("format"))
+
+
 def has_odd_member(kind: str, text: str) -> bool:
-    """Whether an object of a file has a member that its format doesn't know, or one that stands twice. ValueError where
-    the text is no JSON."""
+    """Whether an object of a file has a member that narrow networks don't know, or one that stands twice. ValueError
+    where the text is no JSON."""
     objects: list[dict[str, Any]] = []
     twice: list[dict[str, Any]] = []
 
@@ -184,13 +198,13 @@ def is_remark(name: str) -> bool:
 
 
 def look_at_members(
-    text: Json, item: Value, way: Sequence[int | str], of: str, found: list[Caution]
+    text: Json, item: Value, way: Sequence[int | str], of: str, wide: bool, found: list[Caution]
 ) -> None:
-    """Adds what is to be said of the members of an object of the kind `of`."""
-    known = MEMBERS[of]
+    """Adds what is to be said of the members of an object of the kind `of`, in a wide network or a narrow one."""
+    known = looked_at(of, wide)
     seen: dict[str, int] = {}
     for name, at, value in item.held if item.kind == "object" else []:
-        if is_remark(name) or (of, name, text.shown(value)) == ("topology", "format", "1"):
+        if is_remark(name):
             continue
         path, kind = member_path((*way, name)), (text.path, way[:1], name)
         if name in seen:
@@ -204,19 +218,20 @@ def look_at_members(
         elif name not in known:
             found.append(
                 Caution(
-                    f"{text.where(at)}: {path} counts for nothing: {why_nothing(item, name, of)}",
-                    [f"the members are {', '.join(f'`{one}`' for one in known)}"], kind=("unknown", *kind), place=path,
+                    f"{text.where(at)}: {path} counts for nothing: {why_nothing(item, name, of, wide)}",
+                    [f"the members are {', '.join(f'`{one}`' for one in members(of, wide))}"],
+                    kind=("unknown", *kind), place=path,
                 )
             )
         seen.setdefault(name, at)
 
 
-def why_nothing(item: Value, name: str, of: str) -> str:
+def why_nothing(item: Value, name: str, of: str, wide: bool) -> str:
     """Why a member of an object of the kind `of` counts for nothing."""
     without = UNSAYABLE.get(of, {}).get(name)
     if without:
         return f"this version can't say it, {without}"
-    here, known = [one for one, _, _ in item.held], MEMBERS[of]
+    here, known = [one for one, _, _ in item.held], members(of, wide)
     guess = nearest(name, [one for one in known if one not in here]) or nearest(name, known)
     return f"no member has this name{f'; did you mean `{guess}`?' if guess else ''}"
 
@@ -355,19 +370,19 @@ class Covered:
     classes with a path that isn't dropped are counted together, from each address on."""
 
     def __init__(self, lines: Sequence[PathLine]) -> None:
-        self.groups: dict[tuple[str, str], list[PathLine]] = {}
+        self.groups: dict[str, dict[str, list[PathLine]]] = {}
         for line in lines:
-            self.groups.setdefault((line.host, line.vlan), []).append(line)
-        self.addresses = [number_of(line.address) for line in next(iter(self.groups.values()), [])]
+            self.groups.setdefault(line.host, {}).setdefault(line.vlan, []).append(line)
+        first = next(iter(self.groups.values()), {})
+        self.addresses = [number_of(line.address) for line in next(iter(first.values()), [])]
         self.counts: dict[tuple[str, str], tuple[int, list[int]]] = {}
 
     def counts_of(self, host: str, vlan: str) -> tuple[int, list[int]]:
         """Of the entries of a host port and a VLAN, or of any: how many there are, and how many of their classes before
         each address aren't dropped."""
         if (host, vlan) not in self.counts:
-            groups = [
-                group for (one, other), group in self.groups.items() if host in ("any", one) and vlan in ("any", other)
-            ]
+            hosts = self.groups.values() if host == "any" else [self.groups.get(host, {})]
+            groups = [group for mine in hosts for one, group in mine.items() if vlan in ("any", one)]
             counts = [0] * (len(self.addresses) + 1)
             for group in groups:
                 for at, line in enumerate(group):
@@ -383,8 +398,12 @@ class Covered:
         low, high = bisect.bisect_left(self.addresses, first), bisect.bisect_left(
             self.addresses, first + (1 << 32 - length)
         )
-        groups, counts = self.counts_of(demand.get("from", "any"), str(demand.get("vlan", "any")))
-        return groups * (high - low), counts[high] - counts[low]
+        source, vlan = demand.get("from", "any"), str(demand.get("vlan", "any"))
+        groups = going = 0
+        for host in dict.fromkeys(source) if isinstance(source, list) else [source]:
+            mine, counts = self.counts_of(host, vlan)
+            groups, going = groups + mine, going + counts[high] - counts[low]
+        return groups * (high - low), going
 
 
 def number_of(address: str) -> int:

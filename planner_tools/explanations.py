@@ -189,7 +189,7 @@ class Explainer:
         for number, demand in enumerate(policy.root.member("demands").items()):
             values = nets.plain(demand)
             if (
-                values.get("from", "any") in ("any", host)
+                nets.speaks_of(values, host)
                 and str(values.get("vlan", "any")) in ("any", vlan)
                 and nets.covers(values["dst"], address)
             ):

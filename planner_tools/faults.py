@@ -5,7 +5,7 @@ tells the member, and what would be right. Nothing is refused here. The checks o
 from __future__ import annotations
 
 from planner_tools.files import did_you_mean, member_path, nearest
-from planner_tools.members import MEMBERS, OF_OTHERS
+from planner_tools.members import ANY, MEMBERS, NARROW, OF_OTHERS, WIDE, is_wide, members
 from planner_tools.network import LAST_PORT, LAST_VLAN, NAME, port_reference, prefix
 
 TYPE_CHECKING = False
@@ -15,6 +15,8 @@ if TYPE_CHECKING:
     from planner_tools.files import Json, Value
     from planner_tools.network import Network
 
+# So many host ports may stand in a list.
+MOST_PORTS = 1024
 PORT_WORDS = "a port is written SWITCH:PORT, as \"s1:2\""
 PREFIX_WORDS = (
     'a prefix is four numbers from 0 to 255 joined by dots, a slash, and a length from 0 to 32, as "10.0.0.0/24"'
@@ -159,6 +161,9 @@ class Topology(Checks):
         self.names: dict[str, int] = {}
         self.used: dict[tuple[str, int], Any] = {}
         self.count: dict[str, int] = {}
+        number = json.root.member("format")
+        self.is_wide = number is not None and is_wide(number.whole())
+        self.known = members("topology", self.is_wide)
 
     def switch_names(self) -> list[str]:
         return list(self.names)
@@ -172,11 +177,21 @@ class Topology(Checks):
         )
 
     def faults(self) -> Iterator[Fault]:
-        for part in (self.switches, self.links, self.hosts, self.vlans, self.tags):
+        for part in (self.format, self.switches, self.links, self.hosts, self.vlans, self.tags, self.fields):
             yield from part()
 
+    def format(self) -> Iterator[Fault]:
+        right = f"{NARROW}, as where the member is absent, or {WIDE} for a wide network"
+        bad = self.of_kind(self.json.root, (), 0, "format", ["whole"], right, self.known, True)
+        value = self.json.root.member("format")
+        if bad:
+            yield bad
+        elif value is not None and value.whole() not in (NARROW, WIDE):
+            what = f"the formats of topologies are {NARROW} and {WIDE}"
+            yield Fault("BadFormat", "", 0, ("format",), what, right)
+
     def switches(self) -> Iterator[Fault]:
-        items, fault = self.list_at("switches", MEMBERS["topology"])
+        items, fault = self.list_at("switches", self.known)
         if fault:
             yield fault
             return
@@ -218,7 +233,7 @@ class Topology(Checks):
                 )
 
     def links(self) -> Iterator[Fault]:
-        items, fault = self.list_at("links", MEMBERS["topology"])
+        items, fault = self.list_at("links", self.known)
         if fault:
             yield fault
             return
@@ -233,7 +248,7 @@ class Topology(Checks):
                 yield from self.port(value.held, "links", number, (*way, end))
 
     def hosts(self) -> Iterator[Fault]:
-        items, fault = self.list_at("hosts", MEMBERS["topology"])
+        items, fault = self.list_at("hosts", self.known)
         if fault:
             yield fault
             return
@@ -271,7 +286,7 @@ class Topology(Checks):
                 )
 
     def vlans(self) -> Iterator[Fault]:
-        items, fault = self.list_at("vlans", MEMBERS["topology"])
+        items, fault = self.list_at("vlans", self.known)
         if fault:
             yield fault
             return
@@ -299,7 +314,7 @@ class Topology(Checks):
             seen.setdefault(item.held, number)
 
     def tags(self) -> Iterator[Fault]:
-        items, fault = self.list_at("tags", MEMBERS["topology"])
+        items, fault = self.list_at("tags", self.known)
         right = "[], or the first and the last id of a range, as [3000, 3009]"
         if fault:
             fault.right = right
@@ -312,6 +327,23 @@ class Topology(Checks):
                 yield Fault("BadTags", "", 0, ("tags",), f"the ids of tags are 1 to {LAST_VLAN}", right)
             elif first > last:
                 yield Fault("BadTags", "", 0, ("tags",), "the first id is above the last one", f"[{last}, {first}]")
+
+    def fields(self) -> Iterator[Fault]:
+        """Of a wide network: a narrow one passes the member over. The first name is one too many."""
+        value, right = self.json.root.member("fields"), "[], or no member `fields`"
+        if not self.is_wide or value is None:
+            return
+        if value.kind != "list":
+            yield Fault("Shape", "fields", 0, ("fields",), "it has to be a list", right)
+            return
+        for item in value.held[:1]:
+            way = ("fields", 0)
+            if item.kind != "text":
+                yield Fault("Shape", "fields", 0, way, f"it is {KIND_WORDS[item.kind]}", f"a text; {right}")
+            elif item.held in ANY:
+                yield Fault("BadField", "", 0, way, "this version has no rule and no demand that tests it", right)
+            else:
+                yield Fault("BadField", "", 0, way, "no field of packets has this name", right)
 
 
 class Rules(Checks):
@@ -492,6 +524,10 @@ def prefix_words(text: str) -> tuple[str, str]:
 
 
 class Policy(Checks):
+    def __init__(self, json: Json, network: Network | None) -> None:
+        super().__init__(json, network)
+        self.hosts = frozenset(network.hosts)
+
     def faults(self) -> Iterator[Fault]:
         known = MEMBERS["demand"]
         items, fault = self.list_at("demands", MEMBERS["policy"])
@@ -524,26 +560,56 @@ class Policy(Checks):
             yield from self.through(item, way, number, known)
             bad = self.of_kind(item, way, number, "deliver", ["truth"], "true or false, without quotes", known, True)
             yield from [bad] if bad else []
+            yield from self.refused(item, way, number) if self.network.is_wide else ()
+
+    def refused(self, item: Value, way: Sequence[int | str], number: int) -> Iterator[Fault]:
+        """Members of a demand that this version refuses in a wide network, and passes over in a narrow one."""
+        for name, what, without in (
+            ("to", "this version can't say at which host ports packets may leave", "packets may leave at every one"),
+            ("deny", "this version can't forbid anything to packets", "nothing is forbidden"),
+        ):
+            if item.member(name) is not None:
+                right = f"a demand without `{name}`, by which {without}"
+                yield Fault("Shape", name, number, (*way, name), what, right)
 
     def source(self, item: Value, way: Sequence[int | str], number: int, known: Sequence[str]) -> Iterator[Fault]:
-        value = item.member("from")
+        value, wide = item.member("from"), self.network.is_wide
         is_list = value is not None and value.kind == "list"
-        several = "; of several ports each has a demand of its own" if is_list else ""
-        right = f"a host port, or `any`: {PORT_WORDS}{several}"
-        bad = self.of_kind(item, way, number, "from", ["text"], right, known, True)
+        several = f"; several ports take a demand each, or a topology of format {WIDE}"
+        right = (
+            f"a host port, a list of 1 to {MOST_PORTS} host ports, or `any`: {PORT_WORDS}"
+            if wide
+            else f"a host port, or `any`: {PORT_WORDS}{several if is_list else ''}"
+        )
+        bad = self.of_kind(item, way, number, "from", ["text", "list"] if wide else ["text"], right, known, True)
         if bad or value is None or value.held == "any":
             yield from [bad] if bad else []
             return
         way = (*way, "from")
+        if not is_list:
+            yield from self.port(value, way, number, ["any", *self.network.hosts])
+            return
+        if not value.held:
+            yield Fault("Shape", "from", number, way, "it is an empty list", right)
+        elif len(value.held) > MOST_PORTS:
+            yield Fault(
+                "TooMany", "from", number, way, f"it has {len(value.held)} ports", f"at most {MOST_PORTS} ports"
+            )
+        for at, one in enumerate(value.held):
+            if one.kind == "text":
+                yield from self.port(one, (*way, at), number, self.network.hosts)
+            else:
+                yield Fault("Shape", "from", number, (*way, at), f"it is {KIND_WORDS[one.kind]}", PORT_WORDS)
+
+    def port(self, value: Value, way: Sequence[int | str], number: int, likely: Sequence[str]) -> Iterator[Fault]:
+        """The faults of a reference to a host port, for which some texts are likely ones."""
         found = port_reference(value.held)
         if found is None:
-            yield Fault(
-                "Shape", "from", number, way,
-                f"it is no port of a switch{did_you_mean(value.held, ['any', *self.network.hosts])}", PORT_WORDS,
-            )
+            alone = "; `any` stands alone, in no list" if value.held == "any" else did_you_mean(value.held, likely)
+            yield Fault("Shape", "from", number, way, f"it is no port of a switch{alone}", PORT_WORDS)
         elif found[0] not in self.network.numbers:
             yield self.switch_fault(found[0], number, way)
-        elif value.held not in self.network.hosts:
+        elif value.held not in self.hosts:
             name = found[0]
             here = [one for one in self.network.hosts if one.rpartition(":")[0] == name]
             peer = self.network.peers.get(value.held)

@@ -12,6 +12,7 @@ from __future__ import annotations
 import bisect
 
 from planner_tools import network as nets
+from planner_tools.members import is_wide
 
 TYPE_CHECKING = False
 if TYPE_CHECKING:
@@ -52,6 +53,15 @@ def prefix_of(text: str) -> tuple[int, int]:
     return found
 
 
+def sources_of(source: Any, wide: bool) -> set[str]:
+    """The host ports of a member `from`, or `any` alone. Doubt about lists that the program refuses."""
+    if not isinstance(source, list):
+        return {source}
+    if not wide or ANY in source:
+        raise Doubt
+    return set(source)
+
+
 class FirstTables:
     """The tables of a configuration beside a policy, both as JSON that was read. Doubt where they aren't of the right
     form."""
@@ -71,6 +81,7 @@ class FirstTables:
         for table in self.tables.values():
             table.sort(key=lambda rule: -rule.priority)
         self.spans = [prefix_of(one["dst"]) for one in self.demands]
+        self.sources = [sources_of(one.get("from", ANY), is_wide(topology.get("format"))) for one in self.demands]
         self.followed = 0
         self.ways: dict[str, tuple[Any, Any]] = {}
         self.found: dict[str, tuple[set[int], Any]] = {}
@@ -127,8 +138,9 @@ class FirstTables:
         """How many classes no demand covers. Doubt where one of them meets a rule that sends on where it enters."""
         count = 0
         covers: dict[Any, list[tuple[int, int]]] = {}
-        for demand, span in zip(self.demands, self.spans):
-            covers.setdefault((demand.get("from", ANY), demand.get("vlan", ANY)), []).append(self.atoms_of(*span))
+        for demand, sources, span in zip(self.demands, self.sources, self.spans):
+            for source in sources:
+                covers.setdefault((source, demand.get("vlan", ANY)), []).append(self.atoms_of(*span))
         demanded = {key: covered(ranges) for key, ranges in covers.items()}
         for host in self.hosts:
             name = f"{host[0]}:{host[1]}"
@@ -157,17 +169,17 @@ class FirstTables:
 
     def see_that_all_ask_for_something(self) -> None:
         """Doubt where a demand may cover no class, or all of whose packets may be dropped."""
-        for demand, span in zip(self.demands, self.spans):
+        for demand, sources, span in zip(self.demands, self.sources, self.spans):
             if demand.get("vlan", ANY) not in (ANY, *self.vlans):
                 raise Doubt
             if not demand.get("deliver") and all(
-                self.end_of(*packet) is None for packet in self.packets_of(demand, span)
+                self.end_of(*packet) is None for packet in self.packets_of(demand, sources, span)
             ):
                 raise Doubt
 
-    def packets_of(self, demand: dict[str, Any], span: tuple[int, int]) -> Iterable[Any]:
+    def packets_of(self, demand: dict[str, Any], sources: set[str], span: tuple[int, int]) -> Iterable[Any]:
         """Some packets of which a demand speaks."""
-        hosts = [host for host in self.hosts if demand.get("from", ANY) in (ANY, f"{host[0]}:{host[1]}")]
+        hosts = [host for host in self.hosts if ANY in sources or f"{host[0]}:{host[1]}" in sources]
         vlans = [vlan for vlan in self.vlans if demand.get("vlan", ANY) in (ANY, vlan)]
         low, high = self.atoms_of(*span)
         found = ((host, vlan, self.atoms[at]) for at in range(low, high) for host in hosts for vlan in vlans)

@@ -1,7 +1,9 @@
-"""The members of the objects in the files, by the kind of object."""
+"""The members of the objects in the files, by the kind of object. A network whose topology has format 2 is wide."""
+
+NARROW, WIDE = 1, 2              # the formats of topologies
 
 MEMBERS = {
-    "topology": ("switches", "links", "hosts", "vlans", "tags"),
+    "topology": ("format", "switches", "links", "hosts", "vlans", "tags"),
     "switch": ("name", "capacity"),
     "configuration": ("rules",),
     "rule": ("switch", "priority", "in_port", "vlan", "dst", "out"),
@@ -11,6 +13,10 @@ MEMBERS = {
     "plan rule": ("switch", "priority", "in_port", "vlan", "dst", "out", "set", "strip"),
     "change": ("do", "switch", "priority", "in_port", "vlan", "dst", "out", "set", "strip"),
 }
+# Those that are read besides where the network is wide, and those that are refused there: a narrow network passes both
+# over.
+OF_WIDE = {"topology": ("fields",)}
+REFUSED_IN_WIDE = {"demand": ("to", "deny")}
 # The members by which files of the kinds are known.
 OF_OTHERS = {"topology": "switches", "policy": "demands", "plan": "rounds", "configuration": "rules"}
 
@@ -30,13 +36,25 @@ def unsaid_tests(of: str) -> dict[str, str]:
 
 RULE = {**unsaid_tests("rule"), "type": "so the rule is one for IPv4 packets", "mods": "so the rule rewrites nothing"}
 UNSAYABLE = {
-    "topology": {
-        "format": "so the network has the sizes and rules that this version knows",
-        "fields": "so no rule and no demand tests more than a port, a VLAN and a destination",
-    },
+    "topology": {"fields": "so no rule and no demand tests more than a port, a VLAN and a destination"},
     "rule": RULE, "plan rule": RULE, "change": RULE,
     "demand": {
         **unsaid_tests("demand"), "to": "so these packets may leave at every host port",
         "deny": "so nothing is forbidden to these packets",
     },
 }
+
+
+def members(of: str, is_wide: bool) -> tuple[str, ...]:
+    """The members of an object of a kind, in a wide network or a narrow one."""
+    return MEMBERS[of] + (OF_WIDE.get(of, ()) if is_wide else ())
+
+
+def looked_at(of: str, is_wide: bool) -> tuple[str, ...]:
+    """The members of an object that aren't passed over: those that are read, and those that are refused."""
+    return members(of, is_wide) + (REFUSED_IN_WIDE.get(of, ()) if is_wide else ())
+
+
+def is_wide(number: object) -> bool:
+    """Whether a network is wide whose topology has this value of `format`, None where it has none."""
+    return type(number) is int and number == WIDE

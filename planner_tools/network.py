@@ -4,6 +4,8 @@ from __future__ import annotations
 
 import re
 
+from planner_tools.members import is_wide
+
 TYPE_CHECKING = False
 if TYPE_CHECKING:
     from typing import Any
@@ -54,11 +56,19 @@ def covers(text: str, other: str) -> bool:
     return (int.from_bytes(parts, "big") ^ first) >> (32 - length) == 0 if length else True
 
 
+def speaks_of(demand: dict[str, Any], host: str) -> bool:
+    """Whether a demand speaks of packets that enter at a host port."""
+    source = demand.get("from", "any")
+    return host in source if isinstance(source, list) else source in ("any", host)
+
+
 class Network:
     """A topology that was read."""
 
     def __init__(self, json: Json) -> None:
         self.json, root = json, json.root
+        number = root.member("format")
+        self.is_wide = number is not None and is_wide(number.whole())
         self.names = []
         self.capacities = []
         self.peers = {}

@@ -351,9 +351,10 @@ FRONT = [
         (
             "Writes a policy that both configurations keep: each class of packets that arrives under both must arrive,"
             " and has to meet those of the switches behind `--through`, which may stand several times, that both of its"
-            " paths meet. The demands are put together to few. The classes that stay free are listed on the error"
-            " stream. With `--changed` it speaks of the classes alone whose paths differ; with `--most N` it has no"
-            " more than N demands, those that speak of most classes, and lists the others."
+            " paths meet. The demands are put together to few; in a wide network one may have a list of host ports. The"
+            " classes that stay free are listed on the error stream. With `--changed` it speaks of the classes alone"
+            " whose paths differ; with `--most N` it has no more than N demands, those that speak of most classes, and"
+            " lists the others."
         ),
         False,
     ),

@@ -125,13 +125,27 @@ def random_detour(rng: random.Random) -> dict[str, dict[str, list[Any]]]:
     return dict(zip(FILES, (topology, *configs, {"demands": demands})))
 
 
-def random_update(seed: str) -> dict[str, dict[str, list[Any]]]:
-    """The four files of a random update that changes something."""
-    rng = random.Random(seed)
+def put_together(update: dict[str, dict[str, Any]], rng: random.Random) -> dict[str, dict[str, Any]]:
+    """The same update of a wide network, in which demands that differ in their host ports alone are one, with a list of
+    them in random order, some of them twice."""
+    ports: dict[str, list[str]] = {}
+    for one in update["policy"]["demands"]:
+        ports.setdefault(json.dumps({**one, "from": None}), []).append(one["from"])
+    demands = []
+    for about, mine in ports.items():
+        mine += rng.choices(mine, k=rng.randint(0, 2))
+        rng.shuffle(mine)
+        demands.append(json.loads(about) | {"from": mine})
+    return update | {"topology": {"format": 2, **update["topology"]}, "policy": {"demands": demands}}
+
+
+def random_update(seed: str) -> dict[str, dict[str, Any]]:
+    """The four files of a random update that changes something, of a wide network in half of the cases."""
+    rng, other = random.Random(seed), random.Random(f"{seed} wide")
     while True:
         update = random_detour(rng) if rng.random() < 0.25 else random_trees(rng)
         if any(rule not in update["new"]["rules"] for rule in update["old"]["rules"]):
-            return update
+            return put_together(update, other) if other.random() < 0.5 else update
 
 
 def example(name: str) -> dict[str, dict[str, list[Any]]]:

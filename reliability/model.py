@@ -143,9 +143,9 @@ class Duties:
         self.chains = []
         for demand in demands:
             first, last = bounds(demand["dst"])
-            here = demand.get("from", "any") in ("any", f"{switch}:{port}") and vlan_in(demand.get("vlan", "any")) in (
-                None, vlan,
-            )
+            source = demand.get("from", "any")
+            here = (source == "any" or (switch, port) in map(port_in, [source] if isinstance(source, str) else source))
+            here = here and vlan_in(demand.get("vlan", "any")) in (None, vlan)
             if here and first <= address <= last:
                 self.chains.append(list(dict.fromkeys(demand.get("through", []))))
                 self.deliver = self.deliver or demand.get("deliver", False)

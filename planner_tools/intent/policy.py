@@ -4,8 +4,9 @@
 
 Each class of packets that leaves the network under OLD and under NEW must arrive (`deliver`). Of the switches behind `--through` it has to meet those that both
 of its paths meet, in the order in which both meet them; where the orders differ, as many as agree, and each other one by itself. The demands are put together to
-few: over all host ports or all VLANs where it is so for each, and over the greatest prefixes. What else the classes do stays free, and is listed on the error
-stream. With `--changed` there are demands for the classes alone whose paths differ.
+few: over all host ports or all VLANs where it is so for each, and over the greatest prefixes. In a wide network, one whose topology has format 2, a demand may
+have a list of host ports. What else the classes do stays free, and is listed on the error stream. With `--changed` there are demands for the classes alone whose
+paths differ.
 
 Before the policy is written, `config` has accepted it over both configurations.
 
@@ -23,7 +24,7 @@ from planner_tools import network as nets
 from planner_tools.files import counted, did_you_mean
 from planner_tools.intent.asking import asked, done, files_of, network_of
 from planner_tools.intent.classes import (
-    Beside, Paths, blocks, grouped, prefix_text, range_words, ranges, vlan_value, vlan_words,
+    Beside, Paths, blocks, grouped, prefix_text, range_words, ranges, shortened, vlan_value, vlan_words,
 )
 from planner_tools.proved import Given, Unable
 
@@ -35,8 +36,15 @@ if TYPE_CHECKING:
     from planner_tools.intent.classes import Way
     from planner_tools.network import Network
 
+    # What a demand is about: its host ports or `any` alone, its VLAN or `any`, and the first address and the length of
+    # its prefix.
+    Part = tuple[tuple[str, ...], str, tuple[int, int]]
+
 WRONG_WORDS, REFUSED = 2, 1
-MOST_DEMANDS, LONGEST_CHAIN = 512, 16
+MOST_DEMANDS, LONGEST_CHAIN, MOST_PORTS = 512, 16, 1024
+# So many host ports of a list are told.
+TOLD = 6
+WIDER = 'Next: a topology that says `"format": 2` lets a demand have a list of host ports, and it takes {} demands'
 ANY = "any"
 # What a class does for which no demand speaks, in the order in which it is told.
 FREE = {
@@ -120,26 +128,62 @@ class Wanted:
 # ---- few demands
 
 class Cover:
-    """Host ports or any, VLANs or any, and prefixes that cover the needed classes and none that isn't allowed."""
+    """Host ports or any, VLANs or any, and prefixes that cover the needed classes and none that isn't allowed. In a
+    wide network several host ports may stand together."""
 
-    def __init__(self, both: Beside, allowed: dict[tuple[str, str], set[int]]) -> None:
-        self.both, self.allowed = both, allowed
+    def __init__(self, both: Beside, allowed: dict[tuple[str, str], set[int]], is_wide: bool) -> None:
+        self.both, self.allowed, self.is_wide = both, allowed, is_wide
         self.kept: dict[Any, Any] = {}
 
-    def fewest(self, needed: dict[tuple[str, str], set[int]]) -> list[tuple[str, str, tuple[int, int]]]:
+    def fewest(self, needed: dict[tuple[str, str], set[int]]) -> list[Part]:
         """The shortest of the covers that take first the one and then the other kind of groups."""
         ways = [kept for count in (3, 2, 1, 0) for kept in itertools.combinations(("all", "vlan", "host"), count)]
-        return min((self.by((*kept, "entry"), needed) for kept in ways), key=len)
+        covers = [self.by((*kept, "entry"), needed) for kept in ways]
+        if self.is_wide:
+            covers += [self.by_ports(needed), *map(put_together, covers)]
+        return min(covers, key=len)
 
-    def by(
-        self, kinds: Sequence[str], needed: dict[tuple[str, str], set[int]]
-    ) -> list[tuple[str, str, tuple[int, int]]]:
+    def by(self, kinds: Sequence[str], needed: dict[tuple[str, str], set[int]]) -> list[Part]:
         left, found = {entry: set(atoms) for entry, atoms in needed.items()}, []
         for kind in kinds:
             for host, vlan in self.groups(kind, left):
-                found += [(host, vlan, block) for block in self.of_group(host, vlan, left)]
+                found += [((host,), vlan, block) for block in self.of_group(host, vlan, left)]
             left = {entry: atoms for entry, atoms in left.items() if atoms}
         return found
+
+    def by_ports(self, needed: dict[tuple[str, str], set[int]]) -> list[Part]:
+        """The cover that takes all host ports together for which the same addresses are allowed, for any VLAN and then
+        for each."""
+        left, found = {entry: set(atoms) for entry, atoms in needed.items()}, []
+        for vlan in (ANY, *self.both.vlans):
+            vlans = self.both.vlans if vlan == ANY else [vlan]
+            ports: dict[int, list[str]] = {}         # by atom
+            wanted: set[int] = set()
+            for host in self.both.hosts:
+                entries = [(host, one) for one in vlans]
+                allowed = self.common(host, vlan, entries)[0]
+                for atom in allowed:
+                    ports.setdefault(atom, []).append(host)
+                for entry in entries:
+                    wanted |= left.get(entry, set()) & allowed
+                    left[entry] = left.get(entry, set()) - allowed
+            found += [(hosts, vlan, block) for hosts, block in self.by_same_ports(ports, wanted)]
+        return put_together(found)
+
+    def by_same_ports(
+        self, ports: dict[int, list[str]], wanted: set[int]
+    ) -> list[tuple[tuple[str, ...], tuple[int, int]]]:
+        """The greatest prefixes of atoms with the same host ports, as far as something wanted lies in them."""
+        atoms: dict[tuple[str, ...], list[int]] = {}
+        for atom in sorted(ports):
+            atoms.setdefault(tuple(ports[atom]), []).append(atom)
+        return [
+            ((ANY,) if len(hosts) == len(self.both.hosts) else hosts, block)
+            for hosts, mine in atoms.items()
+            for one in ranges(mine, self.both.firsts)
+            for block in blocks(*one)
+            if self.touches(block, wanted)
+        ]
 
     @staticmethod
     def groups(kind: str, left: dict[tuple[str, str], set[int]]) -> dict[tuple[str, str], None] | list[tuple[str, str]]:
@@ -188,26 +232,36 @@ class Cover:
         return any(atom in atoms for atom in range(begin - 1, end))
 
 
-def demands_of(wanted: Wanted) -> list[dict[str, Any]]:
+def put_together(cover: Sequence[Part]) -> list[Part]:
+    """A cover in which host ports stand together whose VLAN and prefix are the same, as many as a demand may have."""
+    ports: dict[tuple[bool, str, tuple[int, int]], dict[str, None]] = {}
+    for hosts, vlan, block in cover:
+        ports.setdefault((hosts == (ANY,), vlan, block), {}).update(dict.fromkeys(hosts))
+    return [
+        (tuple(hosts)[at : at + MOST_PORTS], vlan, block)
+        for (_, vlan, block), hosts in ports.items()
+        for at in range(0, len(hosts), MOST_PORTS)
+    ]
+
+
+def demands_of(wanted: Wanted, is_wide: bool) -> list[dict[str, Any]]:
     """The demands of a policy: first those with waypoints, then those of what only has to arrive."""
     found = []
     covered: dict[tuple[str, str], set[int]] = {}
     for chain, by_entry in wanted.chains.items():
         needed = wanted.needed(by_entry)
-        found += [(chain, *one) for one in Cover(wanted.both, by_entry).fewest(needed)] if needed else []
+        found += [(chain, *one) for one in Cover(wanted.both, by_entry, is_wide).fewest(needed)] if needed else []
         for entry, atoms in needed.items():
             covered.setdefault(entry, set()).update(atoms)
     left = {entry: atoms - covered.get(entry, set()) for entry, atoms in wanted.needed(wanted.arriving).items()}
-    found += [
-        ((), *one)
-        for one in Cover(wanted.both, wanted.arriving).fewest({entry: atoms for entry, atoms in left.items() if atoms})
-    ]
+    left = {entry: atoms for entry, atoms in left.items() if atoms}
+    found += [((), *one) for one in Cover(wanted.both, wanted.arriving, is_wide).fewest(left)]
     return [demand_value(*one) for one in found]
 
 
-def demand_value(chain: Sequence[str], host: str, vlan: str, block: tuple[int, int]) -> dict[str, Any]:
+def demand_value(chain: Sequence[str], hosts: Sequence[str], vlan: str, block: tuple[int, int]) -> dict[str, Any]:
     """A demand as a policy has it."""
-    value: dict[str, Any] = {} if host == ANY else {"from": host}
+    value: dict[str, Any] = {} if ANY in hosts else {"from": hosts[0] if len(hosts) == 1 else list(hosts)}
     value |= {} if vlan == ANY else {"vlan": vlan_value(vlan)}
     value["dst"] = prefix_text(*block)
     value |= {"through": list(chain)} if chain else {}
@@ -257,21 +311,23 @@ def named_switches(given: Sequence[str], network: Network) -> frozenset[str]:
 
 
 def kept_and_left(
-    demands: list[dict[str, Any]], most: int | None, both: Beside
+    demands: list[dict[str, Any]], most: int | None, wanted: Wanted, is_wide: bool
 ) -> tuple[list[dict[str, Any]], list[Any]]:
     """The demands that are written, and those that are left out as there would be too many: of these each speaks of no
     more classes than any that is written. Where it isn't said how many there may be, too many are Unable."""
     if len(demands) <= (most or MOST_DEMANDS):
         return demands, []
     if most is None:
+        in_wide = len(demands) if is_wide else len(demands_of(wanted, True))
         raise Unable(
             f"it takes {len(demands)} demands, and a policy has at most {MOST_DEMANDS}: nothing is written", REFUSED,
             [
                 "Next: ask with --changed for the classes alone whose paths differ, or with --most N for the N demands"
-                " that speak of most classes"
+                " that speak of most classes",
+                *([WIDER.format(in_wide)] if in_wide <= MOST_DEMANDS else []),
             ],
         )
-    order = sorted(range(len(demands)), key=lambda at: (-classes_of(demands[at], both), at))
+    order = sorted(range(len(demands)), key=lambda at: (-classes_of(demands[at], wanted.both), at))
     kept = set(order[:most])
     return [demands[at] for at in sorted(kept)], [demands[at] for at in sorted(order[most:])]
 
@@ -280,9 +336,13 @@ def classes_of(demand: dict[str, Any], both: Beside) -> int:
     """Of how many classes a demand speaks, or of parts of how many."""
     first, length = nets.span(demand["dst"])
     begin, end = (bisect.bisect_right(both.firsts, at) for at in (first, first + (1 << 32 - length) - 1))
-    return (
-        (1 if "from" in demand else len(both.hosts)) * (1 if "vlan" in demand else len(both.vlans)) * (end - begin + 1)
-    )
+    return len(sources_of(demand) or both.hosts) * (1 if "vlan" in demand else len(both.vlans)) * (end - begin + 1)
+
+
+def sources_of(demand: dict[str, Any]) -> list[str]:
+    """The host ports of a demand; none where it speaks of any."""
+    source = demand.get("from", [])
+    return source if isinstance(source, list) else [source]
 
 
 def good_paths(topology: Given, config: Given) -> Paths:
@@ -338,9 +398,10 @@ def work(words: Sequence[str], voice: Told) -> tuple[int, str]:
     given = parser_of().parse_intermixed_args(words)
     files = files_of("policy", given.files, voice)
     both = Beside(*(good_paths(files["TOPO"], files[word]) for word in ("OLD", "NEW")))
-    through = named_switches(given.through, network_of(files["TOPO"]))
+    network = network_of(files["TOPO"])
+    through = named_switches(given.through, network)
     wanted = Wanted(both, through, given.changed)
-    demands, left = kept_and_left(demands_of(wanted), given.most, both)
+    demands, left = kept_and_left(demands_of(wanted, network.is_wide), given.most, wanted, network.is_wide)
     text = policy_text(demands)
     judged(files, text)
     say(wanted, demands, through, voice)
@@ -356,7 +417,7 @@ def demand_words(demand: dict[str, Any]) -> str:
     """For which packets a demand speaks, and what it asks, in words."""
     through = f", by {', '.join(demand['through'])}" if "through" in demand else ""
     vlan = f", {nets.vlan_words(demand['vlan'])}" if "vlan" in demand else ""
-    return f"from {demand.get('from', 'any host')}{vlan}: {demand['dst']}{through}"
+    return f"from {shortened(sources_of(demand), TOLD) or 'any host'}{vlan}: {demand['dst']}{through}"
 
 
 def say(wanted: Wanted, demands: Sequence[dict[str, Any]], through: frozenset[str], voice: Told) -> None:

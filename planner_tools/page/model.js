@@ -75,7 +75,10 @@ class Update {
     const add = ({ first, last }) => { bounds.add(first); if (last < 2 ** 32 - 1) bounds.add(last + 1); };
     for (const tables of [this.old, this.new]) for (const table of tables) table.forEach(add);
     for (const changes of this.rounds) for (const change of changes) add(change.rule);
-    for (const demand of this.demands) add(Object.assign(demand, rangeOf(...demand.prefix)));
+    for (const demand of this.demands) {
+      demand.hosts &&= new Set(demand.hosts);
+      add(Object.assign(demand, rangeOf(...demand.prefix)));
+    }
     const firsts = [...bounds].sort((a, b) => a - b);
     this.atoms = firsts.map((first, at) => ({ first, last: at + 1 < firsts.length ? firsts[at + 1] - 1 : 2 ** 32 - 1 }));
     this.classCount = this.hosts.length * this.vlans.length * this.atoms.length;
@@ -96,7 +99,7 @@ class Update {
   }
 
   demandsOf(it) {
-    return this.demands.filter((demand) => (demand.host < 0 || demand.host === it.host) && (demand.vlan === ANY_VLAN || demand.vlan === it.vlan)
+    return this.demands.filter((demand) => (!demand.hosts || demand.hosts.has(it.host)) && (demand.vlan === ANY_VLAN || demand.vlan === it.vlan)
       && demand.first <= it.address && it.address <= demand.last);
   }
 

@@ -4,7 +4,8 @@ The planner has read the files before, so nothing is checked here.
 
 A rule is a list: switch, priority, ingress port (0 for any), VLAN (-1 for any, 0 for untagged), first address and
 length of the prefix, output (0 for drop), and what is done with the VLAN (0 nothing, -1 the tag is stripped, else this
-id is set). Switches and host ports have their numbers.
+id is set). Switches and host ports have their numbers. A demand has the host ports at which its packets enter, or null
+for any.
 """
 from __future__ import annotations
 
@@ -65,6 +66,7 @@ class Files:
         self.number_of = {name: number for number, name in enumerate(self.names)}
         self.links = [[*self.port_of(one), *self.port_of(other)] for one, other in topology["links"]]
         self.hosts = [self.port_of(host) for host in topology["hosts"]]
+        self.number_of_host = {tuple(host): number for number, host in enumerate(self.hosts)}
         self.vlans = [vlan_of(vlan) for vlan in topology["vlans"]]
 
     def port_of(self, text: str) -> list[int]:
@@ -91,10 +93,11 @@ class Files:
 
     def demand_of(self, demand: dict[str, Any]) -> dict[str, Any]:
         source = demand.get("from", "any")
-        host = -1 if source == "any" else self.hosts.index(self.port_of(source))
+        ports = source if isinstance(source, list) else [source]
+        hosts = None if source == "any" else sorted({self.number_of_host[tuple(self.port_of(port))] for port in ports})
         through = list(dict.fromkeys(self.number_of[name] for name in demand.get("through", [])))
         return {
-            "host": host, "vlan": vlan_of(demand.get("vlan", "any")), "prefix": prefix_of(demand["dst"]),
+            "hosts": hosts, "vlan": vlan_of(demand.get("vlan", "any")), "prefix": prefix_of(demand["dst"]),
             "through": through, "deliver": demand.get("deliver", False),
         }
 

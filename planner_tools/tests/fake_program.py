@@ -59,6 +59,12 @@ def walk(topology, rules, entry, vlan, to):
         stops.append(peers[out])
 
 
+def speaks_of(demand, host):
+    """Whether a demand is one for a host port."""
+    source = demand.get("from", "any")
+    return host in source if isinstance(source, list) else source in ("any", host)
+
+
 def mark(demands, stops, end):
     """How a path breaks the demands that cover its class, or whether it is good or free."""
     switches = [one.rpartition(":")[0] for one in stops]
@@ -84,7 +90,7 @@ def paths(topology, config, policy=None):
                 covering = [
                     one
                     for one in demands
-                    if one.get("from", "any") in ("any", host)
+                    if speaks_of(one, host)
                     and str(one.get("vlan", "any")) in ("any", vlan)
                     and span(one["dst"])[0] <= first < span(one["dst"])[1]
                 ]

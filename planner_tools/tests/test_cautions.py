@@ -64,7 +64,7 @@ def some_network(seed):
         "tags": [],
     }
     if seed % 2:
-        return topology, *routed(chance, topology, prefixes)
+        return with_lists(seed, topology, *routed(chance, topology, prefixes))
     rules = {}
     for name in names:
         for _ in range(chance.randint(0, 6)):
@@ -89,7 +89,18 @@ def some_network(seed):
         demand.update({"vlan": chance.choice([*vlans, 30])} if chance.random() < 0.3 else {})
         demand.update({"deliver": True} if chance.random() < 0.5 else {})
         demands.append(demand)
-    return topology, {"rules": list(rules.values())}, {"demands": demands}
+    return with_lists(seed, topology, {"rules": list(rules.values())}, {"demands": demands})
+
+
+def with_lists(seed, topology, config, policy):
+    """The same, of each fifth a wide network in which some demands have a list of host ports."""
+    if seed % 5:
+        return topology, config, policy
+    chance = random.Random(f"{seed} lists")
+    for demand in policy["demands"]:
+        if chance.random() < 0.7:
+            demand["from"] = chance.choices(topology["hosts"], k=chance.randint(1, 4))
+    return {**topology, "format": 2}, config, policy
 
 
 def routed(chance, topology, prefixes):
@@ -130,7 +141,7 @@ def plain_words(topology, config, policy):
         mine = [
             way
             for host, vlan, address, way in classes
-            if demand.get("from", "any") in ("any", host)
+            if fake_program.speaks_of(demand, host)
             and str(demand.get("vlan", "any")) in ("any", vlan)
             and low <= fake_program.number(address) < high
         ]

@@ -12,12 +12,15 @@ from planner_tools.proved import Given  # noqa: E402
 
 
 class Unsayable(unittest.TestCase):
-    def said(self, kind, value):
-        """What is said of the members of a file."""
-        with tempfile.NamedTemporaryFile("w", suffix=".json") as file:
-            json.dump(value, file)
-            file.flush()
-            return [one.what for one in member_cautions(kind, Given(file.name, "FILE"))]
+    def said(self, kind, value, topology=None):
+        """What is said of the members of a file, in the network of a topology."""
+        with tempfile.TemporaryDirectory() as folder:
+            files = []
+            for name, one in (("FILE", value), ("topology.json", topology)):
+                files.append(Given(os.path.join(folder, name), name))
+                with open(files[-1].real, "w", encoding="utf-8") as file:
+                    json.dump(one, file)
+            return [one.what for one in member_cautions(kind, files[0], files[1] if topology is not None else None)]
 
     def test_each_is_named_with_what_the_object_is_without_it(self):
         for kind, lists in INNER.items():
@@ -37,8 +40,30 @@ class Unsayable(unittest.TestCase):
         for of, names in UNSAYABLE.items():
             self.assertEqual(set(), set(names) & set(MEMBERS[of]))
 
-    def test_a_topology_may_say_that_it_is_of_this_version(self):
-        self.assertEqual([], self.said("topology", {"format": 1, "switches": []}))
+    def test_a_topology_may_say_its_format(self):
+        for number in (1, 2, 3, "2"):
+            self.assertEqual([], self.said("topology", {"format": number, "switches": []}), number)
+
+    def test_what_a_wide_network_reads_or_refuses_doesnt_count_for_nothing(self):
+        """And what it passes over does."""
+        wide, narrow = ({"format": number, "switches": []} for number in (2, 1))
+        demands = {"demands": [{"dst": "10.0.0.0/24", "to": ["s1:1"], "deny": True, "src": "10.0.1.0/24"}]}
+        for kind, value, topology, names in (
+            ("topology", {**wide, "fields": []}, None, []), ("topology", {**narrow, "fields": []}, None, ["fields"]),
+            ("topology", {"switches": [], "fields": []}, None, ["fields"]),
+            ("policy", demands, wide, ["demands[0].src"]),
+            ("policy", demands, {"format": 2.0}, ["demands[0].to", "demands[0].deny", "demands[0].src"]),
+            ("policy", demands, narrow, ["demands[0].to", "demands[0].deny", "demands[0].src"]),
+            ("policy", demands, None, ["demands[0].to", "demands[0].deny", "demands[0].src"]),
+            ("policy", demands, [], ["demands[0].to", "demands[0].deny", "demands[0].src"]),
+            ("configuration", {"rules": [{"mods": {}, "type": "any"}]}, wide, ["rules[0].mods", "rules[0].type"]),
+        ):
+            with self.subTest(kind=kind, topology=topology, value=str(value)):
+                said = self.said(kind, value, topology)
+                self.assertEqual(len(names), len(said), said)
+                for name, what in zip(names, said):
+                    self.assertIn(f": {name}", what)
+                    self.assertIn("this version can't say it", what)
 
 
 if __name__ == "__main__":

@@ -177,6 +177,38 @@ class Exploring(WithFolder):
         )
         self.assertEqual(model.outcomes(network, {}, "a", 1, 0, 0x0A000000), {("drop",)})
 
+    def test_lists_of_host_ports_want_what_the_demands_wanted(self):
+        longest, twice = 0, 0
+        for seed in range(60):
+            rng = random.Random(seed)
+            narrow = explore.random_trees(rng) if seed % 4 else explore.random_detour(rng)
+            wide = explore.put_together(narrow, random.Random(seed))
+            self.assertEqual(wide["topology"], {"format": 2, **narrow["topology"]})
+            self.assertEqual((wide["old"], wide["new"]), (narrow["old"], narrow["new"]))
+            network = model.Network.read(wide["topology"])
+            for host in network.hosts:
+                for address in (0, 0x0A000000, 0x0A000003, 0x0A000007, 0x0A000080, 0x0A000100):
+                    duties = [
+                        model.Duties(one["policy"]["demands"], (*host, network.vlans[0]), address)
+                        for one in (narrow, wide)
+                    ]
+                    wanted = [(one.deliver, {tuple(chain) for chain in one.chains}) for one in duties]
+                    self.assertEqual(wanted[0], wanted[1], seed)
+            ports = [one["from"] for one in wide["policy"]["demands"]]
+            longest = max(longest, *(len(set(one)) for one in ports), 0)
+            twice += sum(len(set(one)) < len(one) for one in ports)
+        self.assertLess(1, longest)
+        self.assertLess(10, twice)
+
+    def test_a_list_of_other_host_ports_wants_nothing(self):
+        demand = {"from": ["a:2", "b:1"], "dst": "10.0.0.0/24", "through": ["a"], "deliver": True}
+        for entry, is_meant in ((("a", 2, 0), True), (("b", 1, 0), True), (("a", 1, 0), False), (("b", 2, 0), False)):
+            self.assertEqual(model.Duties([demand], entry, 0x0A000000).deliver, is_meant, entry)
+
+    def test_half_of_the_random_updates_are_wide(self):
+        formats = [explore.random_update(f"1 {i}")["topology"].get("format") for i in range(100)]
+        self.assertEqual({2, None}, set(formats))
+        self.assertTrue(35 < formats.count(2) < 65, formats.count(2))
 
 
 class Explained(unittest.TestCase):

@@ -6,14 +6,18 @@ import unittest
 
 from networks import EXAMPLES, Folder, all_walks, asked, firsts, front, homes_of, planner, routed, some, span
 
+from planner_tools.intent import policy
+from planner_tools.intent.classes import Beside, Paths
+
 SEEDS = range(16)
 PREFIXES = ["10.0.0.0/24", "10.0.1.0/24", "10.0.2.0/24", "10.0.3.0/24", "10.0.4.0/22", "10.0.0.0/16", "192.168.7.0/24"]
 
 
 def covers(demand, host, vlan, number):
     first, behind = span(demand["dst"])
+    source = demand.get("from", "any")
     return (
-        demand.get("from", "any") in ("any", host)
+        (host in source if isinstance(source, list) else source in ("any", host))
         and demand.get("vlan", "any") in ("any", vlan)
         and first <= number < behind
     )
@@ -132,6 +136,99 @@ class Made(unittest.TestCase):
                     self.assertEqual(words in said, count > 0)
 
 
+def sites(count, **more):
+    """So many sites with a prefix each, apart from one another, that a switch in the middle joins: the topology, and
+    the rules."""
+    names = [f"s{number}" for number in range(count)]
+    net = {
+        **more, "switches": [{"name": "c", "capacity": 99}, *({"name": name, "capacity": 99} for name in names)],
+        "links": [[f"c:{at + 1}", f"{name}:2"] for at, name in enumerate(names)],
+        "hosts": [f"{name}:1" for name in names], "vlans": ["untagged"], "tags": [],
+    }
+    rules = []
+    for at, name in enumerate(names):
+        dst = f"10.{2 * at}.0.0/16"
+        rules += [{"switch": "c", "priority": 5, "dst": dst, "out": at + 1}] + [
+            {"switch": one, "priority": 5, "dst": dst, "out": 1 if one == name else 2} for one in names
+        ]
+    return net, rules
+
+
+class Lists(Made):
+    """Policies of the same networks as wide ones: demands may have lists of host ports. What is demanded of each class
+    is tested by the tests of the narrow ones, here without a judgement of the program, which may know no lists."""
+
+    def made(self, net, old, new, through, *more):
+        _, said = super().made(net, old, new, through, *more)
+        both = Beside(*(self.paths(net, config) for config in (old, new)))
+        wanted = policy.Wanted(both, frozenset(through), "--changed" in more)
+        narrow, wide = (policy.demands_of(wanted, is_wide) for is_wide in (False, True))
+        self.assertLessEqual(len(wide), len(narrow))
+        for one in wide:
+            if isinstance(one.get("from"), list):
+                self.assertLess(1, len(one["from"]))
+                self.assertEqual(len(one["from"]), len(set(one["from"])))
+        return wide, said
+
+    def paths(self, net, config):
+        folder = Folder(self, topology=net, config=config)
+        return Paths(asked("paths", folder / "topology.json", folder / "config.json")[1])
+
+    def test_of_a_full_mesh_each_site_has_one_demand(self):
+        net, rules = sites(24)
+        paths = self.paths(net, {"rules": rules})
+        wanted = policy.Wanted(Beside(paths, paths), frozenset(), False)
+        demands = policy.demands_of(wanted, True)
+        self.assertEqual(
+            [{"from": [host for host in net["hosts"] if host != home], "dst": f"10.{2 * at}.0.0/16", "deliver": True}
+             for at, home in enumerate(net["hosts"])],
+            demands,
+        )
+        self.assertEqual(24 * 23, len(policy.demands_of(wanted, False)))
+
+    def test_a_list_is_no_longer_than_a_demand_may_have(self):
+        ports = [f"s:{number}" for number in range(1, 2500)]
+        cover = [((port,), "any", (0, 8)) for port in ports]
+        self.assertEqual(
+            [(tuple(ports[:1024]), "any", (0, 8)), (tuple(ports[1024:2048]), "any", (0, 8)),
+             (tuple(ports[2048:]), "any", (0, 8))],
+            policy.put_together(cover),
+        )
+
+    def test_any_host_port_stands_alone(self):
+        cover = [((port,), vlan, (0, 8)) for port, vlan in
+                 (("any", "any"), ("s:1", "any"), ("s:2", "10"), ("s:3", "any"))]
+        self.assertEqual(
+            [(("any",), "any", (0, 8)), (("s:1", "s:3"), "any", (0, 8)), (("s:2",), "10", (0, 8))],
+            policy.put_together(cover),
+        )
+
+    def test_words_for_a_list(self):
+        ports = [f"s:{number}" for number in range(1, 10)]
+        for source, words in (
+            ({}, "from any host"), ({"from": "s:1"}, "from s:1"), ({"from": ports[:3]}, "from s:1, s:2, s:3"),
+            ({"from": ports}, "from s:1, s:2, s:3, s:4, s:5, s:6 and 3 more"),
+        ):
+            self.assertEqual(f"{words}: 10.0.0.0/8", policy.demand_words({**source, "dst": "10.0.0.0/8"}))
+
+
+class Wide(unittest.TestCase):
+    """Whole runs over wide networks, whose policies the program judges."""
+
+    def test_a_full_mesh(self):
+        net, rules = sites(24, format=2)
+        folder = Folder(
+            self, topology=net, old={"rules": rules}, new={"rules": random.Random(1).sample(rules, len(rules))}
+        )
+        status, text, said = front("policy", folder.path)
+        self.assertEqual(status, 0, said)
+        self.assertEqual(len(json.loads(text)["demands"]), 24)
+        self.assertIn("24 demands: 552 of", said)
+        folder.write("policy", json.loads(text))
+        status, text = asked("config", *(folder / f"{name}.json" for name in ("topology", "old", "policy")))
+        self.assertEqual(status, 0, text)
+
+
 class Words(unittest.TestCase):
     def test_the_square(self):
         status, text, said = planner("policy", EXAMPLES / "square", "--through", "s4")
@@ -209,24 +306,14 @@ class Words(unittest.TestCase):
 
     def test_too_many_demands(self):
         """Of 24 sites with a prefix each, apart from one another, each pair takes a demand: more than a policy has."""
-        names = [f"s{number}" for number in range(24)]
-        net = {
-            "switches": [{"name": "c", "capacity": 99}, *({"name": name, "capacity": 99} for name in names)],
-            "links": [[f"c:{at + 1}", f"{name}:2"] for at, name in enumerate(names)],
-            "hosts": [f"{name}:1" for name in names], "vlans": ["untagged"], "tags": [],
-        }
-        rules = []
-        for at, name in enumerate(names):
-            dst = f"10.{2 * at}.0.0/16"
-            rules += [{"switch": "c", "priority": 5, "dst": dst, "out": at + 1}] + [
-                {"switch": one, "priority": 5, "dst": dst, "out": 1 if one == name else 2} for one in names
-            ]
+        net, rules = sites(24)
         folder = Folder(
             self, topology=net, old={"rules": rules}, new={"rules": random.Random(1).sample(rules, len(rules))}
         )
         status, text, said = front("policy", folder.path)
         self.assertEqual((status, text), (1, ""))
         self.assertIn("it takes 552 demands, and a policy has at most 512", said)
+        self.assertIn('says `"format": 2` lets a demand have a list of host ports, and it takes 24 demands', said)
         status, text, _ = front("policy", folder.path, "--changed")
         self.assertEqual((status, json.loads(text)), (0, {"demands": []}))
 

@@ -53,6 +53,23 @@ def ring(count):
     return Update(topology, rules(2), rules(3), {"demands": demands})
 
 
+def wide_ring(count):
+    """Returns the update of a ring as a wide network, with one demand for each destination."""
+    return wide(ring(count))
+
+
+def wide(update):
+    """Returns the same update of a wide network, in which demands that are alike but for their host ports are one."""
+    together = {}
+    for demand in update.policy["demands"]:
+        about = {name: value for name, value in demand.items() if name != "from"}
+        together.setdefault(json.dumps(about), []).append(demand["from"])
+    return update._replace(
+        topology={**update.topology, "format": 2},
+        policy={"demands": [{"from": hosts, **json.loads(about)} for about, hosts in together.items()]},
+    )
+
+
 def careless(update, seed):
     """Returns a plan without evidence: all rules that differ are changed in one round or in two, by chance."""
     def by_key(config):

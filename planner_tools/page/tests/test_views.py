@@ -52,7 +52,7 @@ class Views(PagesInBrowser):
     def test_what_becomes_of_each_class_is_what_paths_says(self):
         words = {"left": "leave", "dropped": "drop", "again": "loop"}
         for maker, seed in [(networks.some_update, seed) for seed in range(6)] + [
-            (networks.some_crossing, 1), (networks.ring, 5), (networks.leaves, 4),
+            (networks.some_crossing, 1), (networks.ring, 5), (networks.leaves, 4), (networks.wide_ring, 5),
         ]:
             with self.subTest(maker=maker.__name__, seed=seed):
                 files = self.files(maker(seed))
