@@ -112,7 +112,7 @@ def mesh(words: Sequence[str], switches: int) -> Workload:
         {"from": [f"r{i}:1" for i in ring.hosts if i != ring.home(j)], "dst": prefix(j), "deliver": True}
         for j in range(switches)
     ]
-    topology = {"format": 2, **ring.topology()}
+    topology: dict[str, Any] = {"format": 2, **ring.topology()}
     return updating(words, topology, ring.config(2), ring.config(3), {"demands": demands})
 
 
@@ -121,7 +121,7 @@ def long_lists(demands: int, ports: int) -> Workload:
     addresses, each from so many of the ports by chance."""
     chance = random.Random(1)
     hosts = [f"s{i}:{port}" for i in range(128) for port in range(1, 65)]
-    topology = {
+    topology: dict[str, Any] = {
         "format": 2, "switches": [{"name": f"s{i}", "capacity": 1} for i in range(128)], "links": [], "hosts": hosts,
         "vlans": ["untagged"], "tags": [],
     }
