@@ -18,8 +18,8 @@ import tempfile
 import ratio
 from workloads import (
     CERTIFY, CHECK, CONFIG, PACK, PLAN, SIMULATE, Workload, chains, far_rounds, idle_rounds, inserted_above,
-    line_of_chains, one_switch, parallel_links, ranked_rules, recorded_changes, rekeyed_rules, replaced_in_turns,
-    replaced_rules, routes, routing_table, single_addresses, toggled_rules, turned_line, turned_ring,
+    line_of_chains, long_lists, mesh, one_switch, parallel_links, ranked_rules, recorded_changes, rekeyed_rules,
+    replaced_in_turns, replaced_rules, routes, routing_table, single_addresses, toggled_rules, turned_line, turned_ring,
 )
 
 TYPE_CHECKING = False
@@ -77,6 +77,8 @@ KINDS: dict[str, Kind] = {
     "check-parallel-apart": (
         "check, the same with numbers of ports 512 apart", lambda n: parallel_links(n, 62, 512), 4, 3,
     ),
+    "config-lists": ("config, 512 demands with lists of so many host ports", lambda n: long_lists(512, n), 128, 3),
+    "plan-mesh": ("plan, ring of so many switches, each sends to each, with lists", lambda n: mesh(PLAN, n), 5, 3),
     "plan-ring": ("plan, ring of so many switches that turns", lambda n: turned_ring(PLAN, n, 4), 16, 3),
     "pack-ring": ("pack of that update", lambda n: turned_ring(PACK, n, 4), 16, 3),
     "check-ring": ("check of plan's plan", lambda n: turned_ring(CHECK, n, 4), 16, 3),

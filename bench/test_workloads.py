@@ -46,6 +46,7 @@ CLASSES = {
     "check-touched-few": 8192,
     "check-parallel-wide": 7998,
     "explain-cycles": 1024,
+    "config-lists": 8192,
 }
 # Two kinds of 20 rules each.
 KINDS = workloads.two_kinds(40)
@@ -276,6 +277,20 @@ class PacketTests(unittest.TestCase):
         self.assertTrue(all(one != other for one, other in itertools.pairwise(chains)))
         self.assertEqual((len(chains), len({tuple(it) for it in chains}), {len(it) for it in chains}), (20, 8, {16}))
 
+    def test_each_switch_of_a_mesh_sends_to_each_other_one(self):
+        files = values(workloads.mesh([], 5))
+        self.assertEqual(files["topology"]["format"], 2)
+        for j, demand in enumerate(files["policy"]["demands"]):
+            self.assertEqual(demand["from"], [f"r{i}:1" for i in range(5) if i != j])
+            rules = [rule for rule in files["old"]["rules"] if rule["dst"] == demand["dst"]]
+            self.assertEqual([rule["out"] for rule in rules], [1 if i == j else 2 for i in range(5)])
+        self.assertEqual(len(files["policy"]["demands"]), 5)
+
+    def test_long_lists_have_each_port_once(self):
+        demands = values(workloads.long_lists(3, 1024))["policy"]["demands"]
+        self.assertEqual([len(set(demand["from"])) for demand in demands], [1024] * 3)
+        self.assertEqual([len(demand["from"]) for demand in demands], [1024] * 3)
+
     def test_packets_leave_a_line_at_its_other_end(self):
         plan = {"kind": "ordered", "rules": [], "rounds": []}
         motion = model.Update(**values(workloads.turned_line([], 4)), plan=plan)
@@ -340,6 +355,8 @@ class AnswerTests(unittest.TestCase):
             (workloads.two_below_all(2), "accepted: ordered, 2 rounds, 8192 classes\n"),
             (workloads.parallel_links(2, 62), "accepted: ordered, 2 rounds, 7998 classes\n"),
             (workloads.either_way(3, 2), "no run: every mixed walk is good\n"),
+            (workloads.mesh(["config", "topology.json", "old.json", "policy.json"], 5), "holds: 35 classes\n"),
+            (workloads.long_lists(3, 1024), "holds: 8192 classes\n"),
         ]
         for workload, said in rows:
             with self.subTest(said), tempfile.TemporaryDirectory() as folder:

@@ -5,7 +5,7 @@ import ipaddress
 import json
 import random
 
-from rings import Ring
+from rings import Ring, prefix
 
 TYPE_CHECKING = False
 if TYPE_CHECKING:
@@ -100,6 +100,33 @@ def tagged_ring() -> Workload:
         CHECK, topology=ring.topology(), old=ring.config(2), new=ring.config(3), policy={"demands": []},
         plan=ring.two_phase_plan(),
     )
+
+
+# ---- lists of host ports, in wide networks
+
+def mesh(words: Sequence[str], switches: int) -> Workload:
+    """A ring that turns, in which each switch sends to each other one: a destination has one demand, from all other
+    switches."""
+    ring = Ring(switches, switches)
+    demands = [
+        {"from": [f"r{i}:1" for i in ring.hosts if i != ring.home(j)], "dst": prefix(j), "deliver": True}
+        for j in range(switches)
+    ]
+    topology: dict[str, Any] = {"format": 2, **ring.topology()}
+    return updating(words, topology, ring.config(2), ring.config(3), {"demands": demands})
+
+
+def long_lists(demands: int, ports: int) -> Workload:
+    """8192 host ports of 128 switches without rules, so that there are as many classes, and so many demands for all
+    addresses, each from so many of the ports by chance."""
+    chance = random.Random(1)
+    hosts = [f"s{i}:{port}" for i in range(128) for port in range(1, 65)]
+    topology: dict[str, Any] = {
+        "format": 2, "switches": [{"name": f"s{i}", "capacity": 1} for i in range(128)], "links": [], "hosts": hosts,
+        "vlans": ["untagged"], "tags": [],
+    }
+    policy = {"demands": [{"from": chance.sample(hosts, ports), "dst": "0.0.0.0/0"} for _ in range(demands)]}
+    return Workload([*CONFIG, "policy.json"], topology=topology, config={"rules": []}, policy=policy)
 
 
 # ---- detours
@@ -526,6 +553,13 @@ WORKLOADS = {
     "plan-ring": ("plan, ring of 128 switches", lambda: turned_ring(PLAN, 128, 4)),
     "check-rules": ("check, ring of 128 switches with 2048 rules", lambda: turned_ring(CHECK, 128, 16)),
     "plan-rules": ("plan, ring of 128 switches with 2048 rules", lambda: turned_ring(PLAN, 128, 16)),
+    "plan-mesh": (
+        "plan, ring of 45 switches each of which sends to each other one, with lists of host ports",
+        lambda: mesh(PLAN, 45),
+    ),
+    "config-lists": (
+        "config, 8192 classes, 512 demands with lists of 1024 host ports", lambda: long_lists(512, 1024),
+    ),
     "plan-reversed": ("plan, reversed ring of 32 switches", lambda: reversed_ring(32)),
     "plan-reversed-64": ("plan, reversed ring of 64 switches", lambda: reversed_ring(64)),
     "check-tagged": ("check, two phases, 64 VLANs, 8000 classes", tagged_ring),

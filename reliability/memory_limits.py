@@ -83,6 +83,14 @@ PLANS = {
     "many numberings": lambda size: plan_of("[[]]", listed("[0,0,0,0]", size), "[]"),
     "many picks": lambda size: plan_of(listed("[]", 3 * 4200), "[[0,0,0,0]]", listed_picks(size // 15)),
 }
+# Policies of the square network as a wide one, whose demands have lists as long as they may be.
+PORTS = listed('"s1:1"', 7 * 1024)
+POLICIES = {
+    "lists of many host ports": lambda size: '{"demands":' + listed(
+        f'{{"dst":"10.0.0.0/24","from":{PORTS}}}', min(size - 20, 512 * (len(PORTS) + 32))
+    ) + "}",
+}
+WIDE = "wide.json"
 SCHEDULES = {
     "packets that go through": lambda size: "".join(
         "enter s1:1 untagged 10.0.0.1\n" + f"hop {i}\n" * 4 for i in range(size // 70)
@@ -123,6 +131,9 @@ def attacks(with_every_command: Sequence[Any]) -> Iterator[Attack]:
         yield from (Attack(words, "plan.json", shape) for words in plan_words)
     for shape in PLANS:
         yield from (Attack(words, "plan.json", shape) for words in plan_words)
+    for shape in POLICIES:
+        for words in (("config", WIDE, square[1]), ("plan", WIDE, *square[1:3])):
+            yield Attack((*words, "policy.json"), "policy.json", shape)
     yield from (
         Attack(("replay", square[0], square[1], "square/plan.json", "schedule"), "schedule", shape)
         for shape in SCHEDULES
@@ -132,13 +143,14 @@ def attacks(with_every_command: Sequence[Any]) -> Iterator[Attack]:
 
 
 def write(attack: Attack, folder: pathlib.Path, size: int) -> int:
-    """Writes the large file; answers its size."""
+    """Writes the large file, and the topology of a wide network; answers the size of the former."""
+    (folder / WIDE).write_text('{"format":2,' + (folder / "square" / "topology.json").read_text().strip()[1:])
     if attack.shape in WASTE:
         example = (folder / "square" / attack.file).read_text().strip()
         front = '{"ignored":'
         text = front + WASTE[attack.shape](size - len(front) - len(example) - 2) + "," + example[1:]
     else:
-        text = (PLANS | SCHEDULES | INPUTS | REPLIES)[attack.shape](size)
+        text = (PLANS | POLICIES | SCHEDULES | INPUTS | REPLIES)[attack.shape](size)
     (folder / attack.file).write_text(text)
     return len(text)
 

@@ -78,6 +78,7 @@ def example_commands() -> Any:
         ]
     commands += [
         ["config", "detour/topology.json", "detour/new.json", "detour/policy-two-waypoints.json"],
+        ["config", *(f"leaf-spine/{name}.json" for name in ("topology-wide", "old", "policy-lists"))],
         ["check", *update("square", "plan-at-once.json")],
         ["pack", *update("square")],
         ["pack", *update("detour")],

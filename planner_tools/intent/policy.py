@@ -30,7 +30,7 @@ from planner_tools.proved import Given, Unable
 
 TYPE_CHECKING = False
 if TYPE_CHECKING:
-    from typing import Any, Sequence
+    from typing import Any, Iterator, Sequence
 
     from planner_tools.intent.asking import Told
     from planner_tools.intent.classes import Way
@@ -144,7 +144,8 @@ class Cover:
         return min(covers, key=len)
 
     def by(self, kinds: Sequence[str], needed: dict[tuple[str, str], set[int]]) -> list[Part]:
-        left, found = {entry: set(atoms) for entry, atoms in needed.items()}, []
+        left = {entry: set(atoms) for entry, atoms in needed.items()}
+        found: list[Part] = []
         for kind in kinds:
             for host, vlan in self.groups(kind, left):
                 found += [((host,), vlan, block) for block in self.of_group(host, vlan, left)]
@@ -154,36 +155,37 @@ class Cover:
     def by_ports(self, needed: dict[tuple[str, str], set[int]]) -> list[Part]:
         """The cover that takes all host ports together for which the same addresses are allowed, for any VLAN and then
         for each."""
-        left, found = {entry: set(atoms) for entry, atoms in needed.items()}, []
+        left = {entry: set(atoms) for entry, atoms in needed.items()}
+        found: list[Part] = []
         for vlan in (ANY, *self.both.vlans):
             vlans = self.both.vlans if vlan == ANY else [vlan]
             ports: dict[int, list[str]] = {}         # by atom
-            wanted: set[int] = set()
+            wanted: dict[str, set[int]] = {}
             for host in self.both.hosts:
                 entries = [(host, one) for one in vlans]
                 allowed = self.common(host, vlan, entries)[0]
                 for atom in allowed:
                     ports.setdefault(atom, []).append(host)
-                for entry in entries:
-                    wanted |= left.get(entry, set()) & allowed
-                    left[entry] = left.get(entry, set()) - allowed
+                mine = [left.setdefault(entry, set()) for entry in entries]
+                wanted[host] = set().union(*mine) & allowed
+                for atoms in mine:
+                    atoms -= allowed
             found += [(hosts, vlan, block) for hosts, block in self.by_same_ports(ports, wanted)]
         return put_together(found)
 
     def by_same_ports(
-        self, ports: dict[int, list[str]], wanted: set[int]
-    ) -> list[tuple[tuple[str, ...], tuple[int, int]]]:
-        """The greatest prefixes of atoms with the same host ports, as far as something wanted lies in them."""
-        atoms: dict[tuple[str, ...], list[int]] = {}
+        self, ports: dict[int, list[str]], wanted: dict[str, set[int]]
+    ) -> Iterator[tuple[tuple[str, ...], tuple[int, int]]]:
+        """The greatest prefixes of atoms that have the same host ports, each with those of the ports from which
+        something in it is wanted."""
+        alike: dict[tuple[str, ...], list[int]] = {}
         for atom in sorted(ports):
-            atoms.setdefault(tuple(ports[atom]), []).append(atom)
-        return [
-            ((ANY,) if len(hosts) == len(self.both.hosts) else hosts, block)
-            for hosts, mine in atoms.items()
-            for one in ranges(mine, self.both.firsts)
-            for block in blocks(*one)
-            if self.touches(block, wanted)
-        ]
+            alike.setdefault(tuple(ports[atom]), []).append(atom)
+        for hosts, atoms in alike.items():
+            for block in (block for one in ranges(atoms, self.both.firsts) for block in blocks(*one)):
+                mine = tuple(host for host in hosts if self.touches(block, wanted[host]))
+                if mine:
+                    yield (ANY,) if len(mine) == len(self.both.hosts) else mine, block
 
     @staticmethod
     def groups(kind: str, left: dict[tuple[str, str], set[int]]) -> dict[tuple[str, str], None] | list[tuple[str, str]]:

@@ -117,8 +117,9 @@ class Demands(unittest.TestCase):
         self.assertEqual("to go by a, then b and to arrive", demand_words(demand))
 
     def test_the_classes_of_a_list_are_those_of_its_ports(self):
+        ends = {"dropped": "dropped {}", "left": "left {}:9 untagged"}
         lines = [
-            cautions.PathLine(f"{host} {vlan} {first}: {host} {end} {host[0]}{'' if end == 'dropped' else f':9 {vlan}'} free")
+            cautions.PathLine(f"{host} {vlan} {first}: {host} {ends[end].format(host[0])} free")
             for host in TOPOLOGY["hosts"]
             for vlan in ("untagged", "10")
             for first, end in (("0.0.0.0", "dropped"), ("10.0.0.0", "left" if host == "a:2" else "dropped"),
@@ -142,8 +143,8 @@ class Others(unittest.TestCase):
     ]}
 
     def test_a_list_covers_what_its_ports_do(self):
-        """Whether something is free is told by a list as by a demand for each of its ports; about lists that are refused
-        nothing is told."""
+        """Whether something is free is told by a list as by a demand for each of its ports; about lists that are
+        refused nothing is told."""
         chance = random.Random(3)
         told = 0
         for _ in range(60):

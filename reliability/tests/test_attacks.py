@@ -110,6 +110,14 @@ class MemoryLimits(WithFolder):
                 if attack.file.endswith(".json"):
                     json.loads((self.folder / attack.file).read_text())
 
+    def test_a_policy_has_as_many_and_as_long_lists_as_it_may_have(self):
+        attack = next(one for one in memory_limits.attacks(()) if one.shape in memory_limits.POLICIES)
+        memory_limits.write(attack, self.folder, 5 << 20)
+        demands = json.loads((self.folder / "policy.json").read_text())["demands"]
+        self.assertEqual({1024}, {len(demand["from"]) for demand in demands})
+        self.assertEqual(512, len(demands))
+        self.assertEqual(2, json.loads((self.folder / attack.words[1]).read_text())["format"])
+
 
 class Exploring(WithFolder):
     def explored(self, name, plan):

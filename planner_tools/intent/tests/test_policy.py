@@ -168,7 +168,20 @@ class Lists(Made):
             if isinstance(one.get("from"), list):
                 self.assertLess(1, len(one["from"]))
                 self.assertEqual(len(one["from"]), len(set(one["from"])))
+                for host in one["from"]:
+                    self.assertTrue(self.is_needed(host, one, wanted), (host, one))
         return wide, said
+
+    @staticmethod
+    def is_needed(host, demand, wanted):
+        """Whether a demand is wanted for some packets that enter at a host port."""
+        first, behind = span(demand["dst"])
+        vlans = [str(demand["vlan"])] if "vlan" in demand else wanted.both.vlans
+        return any(
+            wanted.both.firsts[atom] < behind and wanted.both.last(atom) >= first
+            for vlan in vlans
+            for atom in wanted.changed.get((host, vlan), ())
+        )
 
     def paths(self, net, config):
         folder = Folder(self, topology=net, config=config)
