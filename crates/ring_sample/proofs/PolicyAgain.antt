@@ -26,6 +26,10 @@ not_any : (i : ℕ) → bytes_eq (port_text i 1) (codes "any") ≡ false
 unfolding port_text ring_name
 not_any i = refl
 
+narrow : (n : ℕ) → (ring_network n).wide ≡ false
+unfolding ring_network
+narrow n = refl
+
 pub few_others : (i : ℕ) → length (others i) ≤ 4
 few_others i = omega (arith, length-filter (λ j. not (j == i)) destinations, count_by-le-length (λ j. not (j == i)) destinations)
 
@@ -43,9 +47,9 @@ module _ (n : ℕ) (few : n ≤ most_switches) where
     host_again place = rw (parts_again i 1 (omega arith), named n i few lt, host_is n i lt) refl
 
     demand_again : (place j : ℕ) (before : List DemandView) → length before < 512 → j < 4 → demand_at (ring_network n) place before (demand_tree i j) ≡ Ok (before ++ ring_demand i j ∷ [])
-    unfolding demand_at demand_in cover_in dst_in from_in source_in test_in through_in deliver_in unknown_in ring_network
+    unfolding demand_at demand_in cover_in dst_in from_in source_in test_in through_in deliver_in unknown_in
     demand_again place j before short within =
-        rw (lt-ltb (length before) 512 short, not_any i, host_again place, prefix_in-text (ring_prefix j) (prefix_block j within)) refl
+        rw (lt-ltb (length before) 512 short, not_any i, host_again place, prefix_in-text (ring_prefix j) (prefix_block j within), narrow n) refl
 
     each_again : (js : List ℕ) (m : ℕ) (before : List DemandView) → AllByRecursion (λ j. j < 4) js → length before + length js ≤ 512
         → in_turn (demand_at (ring_network n)) m before (map (demand_tree i) js) ≡ Ok (before ++ map (ring_demand i) js)

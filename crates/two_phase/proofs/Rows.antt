@@ -57,6 +57,7 @@ net_L = record {
   hosts = stop 0 1 ∷ stop 4 3 ∷ [];
   vlans = vlan.Untagged ∷ [];
   tags = Some (record { first = 3000; last = 3009 });
+  wide = false;
 }
 
 abbrev pub L_old : List (List Rule)
@@ -112,6 +113,7 @@ net_few = record {
   hosts = stop 0 1 ∷ stop 0 2 ∷ [];
   vlans = vlan.Untagged ∷ vlan.Id 10 ∷ [];
   tags = Some (record { first = 3000; last = 3000 });
+  wide = false;
 }
 
 needs_eleven : two_phase_need net_few ([] ∷ []) ((to 1 ∷ []) ∷ []) (sw 0) ≡ 11

@@ -44,6 +44,7 @@ net_S = record {
   hosts = stop 0 1 ∷ stop 1 3 ∷ stop 2 4 ∷ stop 3 3 ∷ [];
   vlans = vlan.Untagged ∷ [];
   tags = None;
+  wide = false;
 }
 
 abbrev two_rounds : Rollout
