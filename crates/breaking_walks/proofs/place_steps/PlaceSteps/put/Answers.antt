@@ -4,8 +4,8 @@ use Rattle.breaking_walks.specs.declared.passing.NumberedPlace.{NumberedPlace}
 use Rattle.breaking_walks.proofs.StepLaws.{put_behind, stored_is}
 use Rattle.breaking_walks.proofs.place_steps.PlaceSteps.put.Goals as goal
 
-pub returns : goal.returns
-returns c =
+pub returns-clause-ok : goal.returns-clause-ok
+returns-clause-ok c =
     let place = c.args.place in
     let keys = c.insert_full.new.self.keys in
     let numbered : NumberedPlace = record { number = c.in_ok-number.number; switch = place.switch } in
