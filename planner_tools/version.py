@@ -1,3 +1,3 @@
 """The version of the planner. It stands here alone."""
 
-VERSION = "2.2.0"
+VERSION = "3.0.0"

@@ -16,7 +16,7 @@ from planner.session import Session
 if typing.TYPE_CHECKING:
     from planner.tasks import AsyncSession
 
-__version__ = "2.2.0"
+__version__ = "3.0.0"
 __all__ = [
     "Answer", "AsyncSession", "Event", "Failed", "HELLO", "Message", "NoProgram", "NotNow", "OWN_XIDS", "Packet",
     "Path", "Place", "Reason", "Refused", "Reply", "Said", "ServeEnded", "Session", "Step", "Stop", "ask", "certify",

@@ -225,7 +225,7 @@ class Manners(unittest.TestCase):
             f"planner {VERSION}\nprogram: {PROGRAM}, which the variable PLANNER names\n".encode(),
             planner("--version").stdout,
         )
-        self.assertEqual("2.2.0", VERSION)
+        self.assertEqual("3.0.0", VERSION)
 
     def on_terminal(self, **variables):
         """What is said of a wrong word where the error stream is a terminal."""
