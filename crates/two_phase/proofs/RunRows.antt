@@ -1,6 +1,6 @@
 -- A worked run: the net of four switches, two rounds of one change, two packets.
 use Rattle.std.proofs.Common.{◌≡◌, ℕ, List, [], ◌∷◌, refl, inl, lit<}
-use Rattle.std.specs.Prelude.{None}
+use Rattle.std.specs.Prelude.{false, None}
 use Rattle.net_base.specs.declared.ids.Port.{Port}
 use Rattle.net_base.specs.declared.ids.SwitchId.{SwitchId}
 use Rattle.net_base.specs.declared.ids.Stop.{Stop}
