@@ -21,7 +21,7 @@ loop-member-preserved c =
     let i = c.loop-member.member-index in
     let member = get_or members i no_class in
     let here = in_at members i no_class c.loop-member-test.true in
-    let put = c.in_ok-put.ensures in
+    let put = c.in_ok-put.ensures.ok in
     record {
       begins = λ m among.
           elim (in_append_cases m (take i members) (member ∷ []) (subst (λ (xs : List NumberedClass). IsIn m xs) (take_more members i no_class c.loop-member-test.true) among)) [
