@@ -12,8 +12,8 @@ if TYPE_CHECKING:
     from typing import Any, Sequence
 
 CLASS = r"(?P<host>\S+:\d+) (?P<vlan>\S+) (?P<address>[\d.]+)"
-BREAKS = re.compile(rf"breaks: at {CLASS} (?P<how>Loop|Dropped|Missed) (?P<switch>\S+)")
-BREAKING = re.compile(rf"{CLASS}: .* (?P<how>Loop|Dropped|Missed) (?P<switch>\S+)")
+BREAKS = re.compile(rf"breaks: at {CLASS} (?P<how>Loop|Dropped|Leaked|Missed) (?P<switch>\S+)")
+BREAKING = re.compile(rf"{CLASS}: .* (?P<how>Loop|Dropped|Leaked|Missed) (?P<switch>\S+)")
 NO_EVIDENCE = re.compile(rf"no evidence: round (?P<round>\d+) at {CLASS}")
 BAD = re.compile(r"bad (?P<file>\w+): (?P<number>\d+) (?P<name>\w+)(?: (?P<field>\S+))? at (?P<place>\d+)")
 # The verdict by the status: of the commands for which a word says more than that it was done, and of any command.

@@ -10,7 +10,7 @@ import os
 from planner_tools import network as nets
 from planner_tools import program
 from planner_tools.files import NotJson, did_you_mean, member_path, nearest, read_json
-from planner_tools.members import MEMBERS, OF_OTHERS, UNSAYABLE, is_wide, looked_at, members
+from planner_tools.members import MEMBERS, OF_OTHERS, OF_WIDE, UNSAYABLE, is_wide, members
 
 TYPE_CHECKING = False
 if TYPE_CHECKING:
@@ -201,7 +201,7 @@ def look_at_members(
     text: Json, item: Value, way: Sequence[int | str], of: str, wide: bool, found: list[Caution]
 ) -> None:
     """Adds what is to be said of the members of an object of the kind `of`, in a wide network or a narrow one."""
-    known = looked_at(of, wide)
+    known = members(of, wide)
     seen: dict[str, int] = {}
     for name, at, value in item.held if item.kind == "object" else []:
         if is_remark(name):
@@ -230,13 +230,18 @@ def why_nothing(item: Value, name: str, of: str, wide: bool) -> str:
     """Why a member of an object of the kind `of` counts for nothing."""
     without = UNSAYABLE.get(of, {}).get(name)
     if without:
-        return f"this version can't say it, {without}"
+        who = "a narrow network" if of == "demand" and name in OF_WIDE[of] else "this version"
+        return f"{who} can't say it, {without}"
     here, known = [one for one, _, _ in item.held], members(of, wide)
     guess = nearest(name, [one for one in known if one not in here]) or nearest(name, known)
     return f"no member has this name{f'; did you mean `{guess}`?' if guess else ''}"
 
 
 # ---- what the demands cover, and what the rules serve
+
+# The first words of the marks of `paths`.
+MARKS = ("good", "free", "Loop", "Dropped", "Leaked", "Missed")
+
 
 class PathLine:
     """A line of `paths`: the class, its stops, its end and the mark of its path. ValueError where it is none."""
@@ -251,7 +256,7 @@ class PathLine:
         at = next((at for at, word in enumerate(words) if word in self.ENDS), -1)
         self.end = words[at]
         behind = at + self.ENDS.get(self.end, 0)
-        if at < 1 or words[behind] not in ("good", "free", "Loop", "Missed", "Dropped") or not colon:
+        if at < 1 or words[behind] not in MARKS or not colon:
             raise ValueError(line)
         self.stops, self.place, self.mark = at, words[at + 1], words[behind]
 
@@ -392,17 +397,17 @@ class Covered:
             self.counts[host, vlan] = len(groups), counts
         return self.counts[host, vlan]
 
-    def of(self, demand: dict[str, Any]) -> tuple[int, int]:
-        """How many classes a demand covers, and how many of them aren't dropped."""
+    def of(self, demand: dict[str, Any], wide: bool = False) -> tuple[int, int]:
+        """How many classes a demand covers, in a wide network or a narrow one, and how many of them aren't dropped."""
         first, length = nets.span(demand["dst"])
         low, high = bisect.bisect_left(self.addresses, first), bisect.bisect_left(
             self.addresses, first + (1 << 32 - length)
         )
-        source, vlan = demand.get("from", "any"), str(demand.get("vlan", "any"))
+        vlan = str(demand.get("vlan", "any"))
         groups = going = 0
-        for host in dict.fromkeys(source) if isinstance(source, list) else [source]:
+        for host, sign in nets.sources_of(demand, wide):
             mine, counts = self.counts_of(host, vlan)
-            groups, going = groups + mine, going + counts[high] - counts[low]
+            groups, going = groups + sign * mine, going + sign * (counts[high] - counts[low])
         return groups * (high - low), going
 
 
@@ -412,10 +417,11 @@ def number_of(address: str) -> int:
 
 def demand_cautions(files: Files, lines: Sequence[PathLine], shown: str) -> list[Caution]:
     """Warnings about demands that cover no class, or of whose packets none gets anywhere."""
-    classes, found, vlans = Covered(lines), [], files.plain("topology")["vlans"]
+    classes, found, topology = Covered(lines), [], files.plain("topology")
+    vlans, wide = topology["vlans"], is_wide(topology.get("format"))
     for number, demand in enumerate(files.plain("policy")["demands"]):
-        count, going = classes.of(demand)
-        if count and (demand.get("deliver") or going):
+        count, going = classes.of(demand, wide)
+        if count and (demand.get("deliver") or going or wide and demand.get("deny")):
             continue
         where = files.where("policy", "demands", number)
         if not count and is_undeclared(demand, vlans):
@@ -424,7 +430,12 @@ def demand_cautions(files: Files, lines: Sequence[PathLine], shown: str) -> list
             found.append(
                 Caution(
                     f"{where}: demands[{number}] speaks of no packet: it covers no class of packets",
-                    ["the network has no host port or no VLAN"], kind="no class", place=f"demands[{number}]",
+                    [
+                        "each host port is one of its exits"
+                        if nets.exits_of(demand, wide) and lines
+                        else "the network has no host port or no VLAN"
+                    ],
+                    kind="no class", place=f"demands[{number}]",
                 )
             )
         else:

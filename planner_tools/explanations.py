@@ -157,6 +157,10 @@ class Explainer:
                     "Dropped": (
                         f"Next: give {switch} a rule for it in {self.shown(word)}, or ask for no `deliver` of it"
                     ),
+                    "Leaked": (
+                        f"Next: change the rules of {self.shown(word)} so that this packet leaves where it may, or is"
+                        " dropped; or let it leave there, by `to` or without `deny`"
+                    ),
                     "Missed": (
                         f"Next: lead it by {switch} in {self.shown(word)}, or take {switch} out of `through` of that"
                         " demand"
@@ -185,15 +189,17 @@ class Explainer:
                 if "POLICY" not in self.run.files
                 else []
             )
-        lines = []
+        network = self.network()
+        lines, wide = [], network is not None and network.is_wide
         for number, demand in enumerate(policy.root.member("demands").items()):
             values = nets.plain(demand)
             if (
-                nets.speaks_of(values, host)
+                nets.speaks_of(values, host, wide)
                 and str(values.get("vlan", "any")) in ("any", vlan)
                 and nets.covers(values["dst"], address)
             ):
-                lines.append(f"{policy.where(demand.start)}, demands[{number}] wants of it: {demand_words(values)}")
+                wants = demand_words(values, wide)
+                lines.append(f"{policy.where(demand.start)}, demands[{number}] wants of it: {wants}")
         return lines or [
             f"no demand of {self.shown('POLICY')} covers it: wanted is only that it comes to no switch twice"
         ]
@@ -261,7 +267,7 @@ class Explainer:
             )
 
     def explain_paths(self) -> None:
-        bad = [line for line in self.run.text.splitlines() if re.search(r" (Loop|Missed|Dropped) \S+$", line)]
+        bad = [line for line in self.run.text.splitlines() if re.search(r" (Loop|Dropped|Leaked|Missed) \S+$", line)]
         if bad:
             what, _, how = bad[0].partition(": ")
             self.explain_end("CONFIG", f"{what} {' '.join(how.split(' ')[-2:])}")
@@ -623,13 +629,16 @@ class Explainer:
     }
 
 
-def demand_words(demand: dict[str, Any]) -> str:
-    """What a demand wants, in words."""
-    through, wants = list(dict.fromkeys(demand.get("through", []))), []
+def demand_words(demand: dict[str, Any], wide: bool = False) -> str:
+    """What a demand wants, in words, in a wide network or a narrow one."""
+    through, wants = nets.items_of(demand), []
     if through:
-        wants.append(f"to go by {', then '.join(through)}")
+        wants.append(f"to go by {', then '.join(map(nets.item_words, through))}")
     if demand.get("deliver"):
         wants.append("to arrive")
+    exits = nets.exits_of(demand, wide)
+    if exits is not None:
+        wants.append(f"to leave nowhere but at {' or '.join(exits)}" if exits else "to leave nowhere")
     return " and ".join(wants) or "to come to no switch twice"
 
 

@@ -15,7 +15,7 @@ if TYPE_CHECKING:
     from planner_tools.files import Json, Value
     from planner_tools.network import Network
 
-# So many host ports may stand in a list.
+# So many host ports may stand in a list, and so many names in a group of waypoints.
 MOST_PORTS = 1024
 PORT_WORDS = "a port is written SWITCH:PORT, as \"s1:2\""
 PREFIX_WORDS = (
@@ -529,7 +529,7 @@ class Policy(Checks):
         self.hosts = frozenset(network.hosts)
 
     def faults(self) -> Iterator[Fault]:
-        known = MEMBERS["demand"]
+        known = members("demand", self.network.is_wide)
         items, fault = self.list_at("demands", MEMBERS["policy"])
         if fault:
             yield fault
@@ -560,17 +560,40 @@ class Policy(Checks):
             yield from self.through(item, way, number, known)
             bad = self.of_kind(item, way, number, "deliver", ["truth"], "true or false, without quotes", known, True)
             yield from [bad] if bad else []
-            yield from self.refused(item, way, number) if self.network.is_wide else ()
+            yield from self.exits(item, way, number, known) if self.network.is_wide else ()
 
-    def refused(self, item: Value, way: Sequence[int | str], number: int) -> Iterator[Fault]:
-        """Members of a demand that this version refuses in a wide network, and passes over in a narrow one."""
-        for name, what, without in (
-            ("to", "this version can't say at which host ports packets may leave", "packets may leave at every one"),
-            ("deny", "this version can't forbid anything to packets", "nothing is forbidden"),
-        ):
-            if item.member(name) is not None:
-                right = f"a demand without `{name}`, by which {without}"
-                yield Fault("Shape", name, number, (*way, name), what, right)
+    def exits(self, item: Value, way: Sequence[int | str], number: int, known: Sequence[str]) -> Iterator[Fault]:
+        """The faults of the members that say where packets may leave, which a narrow network passes over."""
+        right = f"a list of at most {MOST_PORTS} host ports, the only ones at which packets may leave: {PORT_WORDS}"
+        bad = self.of_kind(item, way, number, "to", ["list"], right, known, True)
+        value = item.member("to")
+        if bad:
+            yield bad
+        elif value is not None:
+            yield from self.ports(value, (*way, "to"), number, "to")
+        bad = self.of_kind(item, way, number, "deny", ["truth"], "true or false, without quotes", known, True)
+        if bad:
+            yield bad
+        elif item.member("deny") is not None and item.member("deny").held is True:
+            beside = [name for name in ("deliver", "through", "to") if asks(item, name)]
+            if beside:
+                yield Fault(
+                    "BadDemand", "", number, (*way, "deny"),
+                    f"it lets the packets leave nowhere, and beside it stands `{beside[0]}`",
+                    "a demand that denies has no `deliver`, no waypoints and no `to`",
+                )
+
+    def ports(self, value: Value, way: Sequence[int | str], number: int, member: str) -> Iterator[Fault]:
+        """The faults of a list of host ports."""
+        if len(value.held) > MOST_PORTS:
+            yield Fault(
+                "TooMany", member, number, way, f"it has {len(value.held)} ports", f"at most {MOST_PORTS} ports"
+            )
+        for at, one in enumerate(value.held):
+            if one.kind == "text":
+                yield from self.port(one, (*way, at), number, self.network.hosts, member)
+            else:
+                yield Fault("Shape", member, number, (*way, at), f"it is {KIND_WORDS[one.kind]}", PORT_WORDS)
 
     def source(self, item: Value, way: Sequence[int | str], number: int, known: Sequence[str]) -> Iterator[Fault]:
         value, wide = item.member("from"), self.network.is_wide
@@ -587,26 +610,24 @@ class Policy(Checks):
             return
         way = (*way, "from")
         if not is_list:
-            yield from self.port(value, way, number, ["any", *self.network.hosts])
+            yield from self.port(value, way, number, ["any", *self.network.hosts], "from")
             return
         if not value.held:
             yield Fault("Shape", "from", number, way, "it is an empty list", right)
-        elif len(value.held) > MOST_PORTS:
-            yield Fault(
-                "TooMany", "from", number, way, f"it has {len(value.held)} ports", f"at most {MOST_PORTS} ports"
-            )
-        for at, one in enumerate(value.held):
-            if one.kind == "text":
-                yield from self.port(one, (*way, at), number, self.network.hosts)
-            else:
-                yield Fault("Shape", "from", number, (*way, at), f"it is {KIND_WORDS[one.kind]}", PORT_WORDS)
+        yield from self.ports(value, way, number, "from")
 
-    def port(self, value: Value, way: Sequence[int | str], number: int, likely: Sequence[str]) -> Iterator[Fault]:
-        """The faults of a reference to a host port, for which some texts are likely ones."""
+    def port(
+        self, value: Value, way: Sequence[int | str], number: int, likely: Sequence[str], member: str
+    ) -> Iterator[Fault]:
+        """The faults of a reference to a host port in a member, for which some texts are likely ones."""
         found = port_reference(value.held)
         if found is None:
-            alone = "; `any` stands alone, in no list" if value.held == "any" else did_you_mean(value.held, likely)
-            yield Fault("Shape", "from", number, way, f"it is no port of a switch{alone}", PORT_WORDS)
+            alone = (
+                did_you_mean(value.held, likely)
+                if value.held != "any"
+                else "; `any` stands alone, in no list" if member == "from" else "; without `to` it is any"
+            )
+            yield Fault("Shape", member, number, way, f"it is no port of a switch{alone}", PORT_WORDS)
         elif found[0] not in self.network.numbers:
             yield self.switch_fault(found[0], number, way)
         elif value.held not in self.hosts:
@@ -622,23 +643,47 @@ class Policy(Checks):
             )
 
     def through(self, item: Value, way: Sequence[int | str], number: int, known: Sequence[str]) -> Iterator[Fault]:
-        bad = self.of_kind(
-            item, way, number, "through", ["list"], 'a list of names of switches, as ["s2", "s3"]', known, True
-        )
+        right = 'a list of names of switches, as ["s2", "s3"]'
+        if self.network.is_wide:
+            right += ', or of lists of names, of which a packet has to meet one, as ["s2", ["s3", "s4"]]'
+        bad = self.of_kind(item, way, number, "through", ["list"], right, known, True)
         value = item.member("through")
         if bad or value is None:
             yield from [bad] if bad else []
             return
         way = (*way, "through")
-        for at, one in enumerate(value.held):
-            if one.kind != "text":
-                of_several = ": a waypoint is one switch, and can't be one of several" if one.kind == "list" else ""
-                yield Fault(
-                    "Shape", "through", number, (*way, at), f"it is {KIND_WORDS[one.kind]}",
-                    f"the name of a switch{of_several}",
-                )
         if len(value.held) > 16:
             yield Fault("TooMany", "through", number, way, f"it has {len(value.held)} names", "at most 16 names")
         for at, one in enumerate(value.held):
-            if one.kind == "text" and one.held not in self.network.numbers:
-                yield self.switch_fault(one.held, number, (*way, at))
+            if one.kind == "list" and self.network.is_wide:
+                yield from self.group(one, (*way, at), number)
+            else:
+                yield from self.waypoint(one, (*way, at), number)
+
+    def group(self, value: Value, way: Sequence[int | str], number: int) -> Iterator[Fault]:
+        """The faults of a list of waypoints of which a packet has to meet one."""
+        if not value.held:
+            yield Fault("Shape", "through", number, way, "it is an empty list", "a name or more")
+        elif len(value.held) > MOST_PORTS:
+            yield Fault(
+                "TooMany", "through", number, way, f"it has {len(value.held)} names", f"at most {MOST_PORTS} names"
+            )
+        for at, one in enumerate(value.held):
+            yield from self.waypoint(one, (*way, at), number)
+
+    def waypoint(self, value: Value, way: Sequence[int | str], number: int) -> Iterator[Fault]:
+        """The fault of a name of a waypoint."""
+        if value.kind == "text":
+            yield from [] if value.held in self.network.numbers else [self.switch_fault(value.held, number, way)]
+            return
+        is_group = value.kind == "list" and not self.network.is_wide
+        several = f": a list of several takes a topology of format {WIDE}" if is_group else ""
+        yield Fault(
+            "Shape", "through", number, way, f"it is {KIND_WORDS[value.kind]}", f"the name of a switch{several}"
+        )
+
+
+def asks(item: Value, name: str) -> bool:
+    """Whether a demand asks something by a member: that is there, and neither false nor an empty list of waypoints."""
+    value = item.member(name)
+    return value is not None and (name == "to" or bool(value.held))

@@ -53,10 +53,13 @@ def prefix_of(text: str) -> tuple[int, int]:
     return found
 
 
-def sources_of(source: Any, wide: bool) -> set[str]:
-    """The host ports of a member `from`, or `any` alone. Doubt about lists that the program refuses."""
+def sources_of(demand: Any, wide: bool, hosts: list[str]) -> set[str]:
+    """The host ports of which a demand speaks, of these, or `any` alone. Doubt about lists that the program refuses."""
+    source, exits = demand.get("from", ANY), nets.exits_of(demand, wide)
     if not isinstance(source, list):
-        return {source}
+        if source == ANY and exits is not None and not isinstance(exits, list):
+            raise Doubt
+        return set(hosts) - set(exits) if source == ANY and exits else {source}
     if not wide or ANY in source:
         raise Doubt
     return set(source)
@@ -81,7 +84,8 @@ class FirstTables:
         for table in self.tables.values():
             table.sort(key=lambda rule: -rule.priority)
         self.spans = [prefix_of(one["dst"]) for one in self.demands]
-        self.sources = [sources_of(one.get("from", ANY), is_wide(topology.get("format"))) for one in self.demands]
+        self.is_wide = is_wide(topology.get("format"))
+        self.sources = [sources_of(one, self.is_wide, topology["hosts"]) for one in self.demands]
         self.followed = 0
         self.ways: dict[str, tuple[Any, Any]] = {}
         self.found: dict[str, tuple[set[int], Any]] = {}
@@ -172,7 +176,8 @@ class FirstTables:
         for demand, sources, span in zip(self.demands, self.sources, self.spans):
             if demand.get("vlan", ANY) not in (ANY, *self.vlans):
                 raise Doubt
-            if not demand.get("deliver") and all(
+            denies = self.is_wide and demand.get("deny")
+            if not demand.get("deliver") and not denies and all(
                 self.end_of(*packet) is None for packet in self.packets_of(demand, sources, span)
             ):
                 raise Doubt

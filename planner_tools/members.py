@@ -13,15 +13,13 @@ MEMBERS = {
     "plan rule": ("switch", "priority", "in_port", "vlan", "dst", "out", "set", "strip"),
     "change": ("do", "switch", "priority", "in_port", "vlan", "dst", "out", "set", "strip"),
 }
-# Those that are read besides where the network is wide, and those that are refused there: a narrow network passes both
-# over.
-OF_WIDE = {"topology": ("fields",)}
-REFUSED_IN_WIDE = {"demand": ("to", "deny")}
+# Those that are read besides where the network is wide: a narrow network passes them over.
+OF_WIDE = {"topology": ("fields",), "demand": ("to", "deny")}
 # The members by which files of the kinds are known.
 OF_OTHERS = {"topology": "switches", "policy": "demands", "plan": "rounds", "configuration": "rules"}
 
-# What somebody may want to say of an object and this version can't, with what the object is without it. The names are
-# those that a later version is to read.
+# What somebody may want to say of an object and this version can't, or in a wide network alone, with what the object is
+# without it. The names are those that a later version is to read, or that a wide network reads.
 ANY = {
     "src": "from every source", "proto": "of every protocol", "tos": "of every type of service",
     "sport": "from every port of TCP and UDP", "dport": "to every port of TCP and UDP",
@@ -48,11 +46,6 @@ UNSAYABLE = {
 def members(of: str, is_wide: bool) -> tuple[str, ...]:
     """The members of an object of a kind, in a wide network or a narrow one."""
     return MEMBERS[of] + (OF_WIDE.get(of, ()) if is_wide else ())
-
-
-def looked_at(of: str, is_wide: bool) -> tuple[str, ...]:
-    """The members of an object that aren't passed over: those that are read, and those that are refused."""
-    return members(of, is_wide) + (REFUSED_IN_WIDE.get(of, ()) if is_wide else ())
 
 
 def is_wide(number: object) -> bool:

@@ -56,10 +56,44 @@ def covers(text: str, other: str) -> bool:
     return (int.from_bytes(parts, "big") ^ first) >> (32 - length) == 0 if length else True
 
 
-def speaks_of(demand: dict[str, Any], host: str) -> bool:
-    """Whether a demand speaks of packets that enter at a host port."""
+def exits_of(demand: dict[str, Any], wide: bool) -> list[str] | None:
+    """The host ports by which packets of a demand may leave, where it says so: in a wide network."""
+    if not wide:
+        return None
+    return [] if demand.get("deny") else demand.get("to")
+
+
+def speaks_of(demand: dict[str, Any], host: str, wide: bool = False) -> bool:
+    """Whether a demand speaks of packets that enter at a host port. One that is for any speaks of none that enter at
+    one of its exits."""
     source = demand.get("from", "any")
-    return host in source if isinstance(source, list) else source in ("any", host)
+    if source == "any":
+        return host not in (exits_of(demand, wide) or [])
+    return host in source if isinstance(source, list) else source == host
+
+
+def sources_of(demand: dict[str, Any], wide: bool) -> list[tuple[str, int]]:
+    """The host ports of which a demand speaks, or `any`, each with 1, and those of which it doesn't, with -1."""
+    source = demand.get("from", "any")
+    if source == "any":
+        return [(source, 1), *((host, -1) for host in dict.fromkeys(exits_of(demand, wide) or []))]
+    return [(host, 1) for host in (dict.fromkeys(source) if isinstance(source, list) else [source])]
+
+
+def items_of(demand: dict[str, Any]) -> list[list[str]]:
+    """The items of a demand's chain: groups of waypoints, of which a packet has to meet one. A group of one that stands
+    earlier already is left out."""
+    items: list[list[str]] = []
+    for item in demand.get("through", []):
+        names = list(dict.fromkeys([item] if isinstance(item, str) else item))
+        if len(names) > 1 or names not in items:
+            items.append(names)
+    return items
+
+
+def item_words(names: list[str]) -> str:
+    """An item of a chain in words."""
+    return names[0] if len(names) == 1 else f"one of {', '.join(names)}"
 
 
 class Network:

@@ -10,7 +10,7 @@ if TYPE_CHECKING:
 ENTRY = r"(?P<host>\S+:\d+) (?P<vlan>\S+) (?P<address>[\d.]+)"
 # Of each reason of `check`: the rest of its line, and the sentence for it.
 REASONS = {
-    1: ("EndBreaks", rf"(?P<end>old|new) at {ENTRY} (?P<how>Loop|Dropped|Missed) (?P<switch>\S+)", None),
+    1: ("EndBreaks", rf"(?P<end>old|new) at {ENTRY} (?P<how>Loop|Dropped|Leaked|Missed) (?P<switch>\S+)", None),
     2: (
         "BadChange", r"round (?P<round>\d+) switch (?P<switch>\S+) change (?P<change>\d+)",
         (
@@ -83,12 +83,20 @@ REASONS = {
         ),
     ),
     13: ("WrongEnd", r"switch (?P<switch>\S+)", "After the last round the table of {switch} isn't the new one."),
+    14: (
+        "MayLeave", rf"round (?P<round>\d+) at {ENTRY} switch (?P<switch>\S+)",
+        "In round {round} a packet {packet} may leave the network at {switch} by a port that the policy forbids it.",
+    ),
 }
 ENDS = {
     "Loop": "In the {end} configuration a packet {packet} comes to {switch} a second time.",
     "Dropped": (
         "In the {end} configuration a packet {packet} is dropped by {switch}, though the policy says that it must"
         " arrive."
+    ),
+    "Leaked": (
+        "In the {end} configuration a packet {packet} leaves the network at {switch} by a port that the policy forbids"
+        " it."
     ),
     "Missed": (
         "In the {end} configuration a packet {packet} leaves the network without having met waypoint {switch} in its"

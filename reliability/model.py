@@ -129,9 +129,33 @@ def path(network: Network, tables: dict[str, Any], entry: tuple[str, int, Any], 
     return None
 
 
-def is_subsequence(few: Sequence[str], many: Sequence[str]) -> bool:
-    left = iter(many)
-    return all(item in left for item in few)
+def demands_in(topology: dict[str, Any], policy: dict[str, list[dict[str, Any]]]) -> list[dict[str, Any]]:
+    """The demands of a policy. A narrow network passes over where packets may leave."""
+    passed_over = () if topology.get("format") == 2 else ("to", "deny")
+    return [{name: one for name, one in demand.items() if name not in passed_over} for demand in policy["demands"]]
+
+
+def exits_in(demand: dict[str, Any]) -> set[tuple[str, int]] | None:
+    """The host ports at which the packets of a demand may leave, or None for all."""
+    if demand.get("deny"):
+        return set()
+    return set(map(port_in, demand["to"])) if "to" in demand else None
+
+
+def chain_in(demand: dict[str, Any]) -> list[frozenset[str]]:
+    """The waypoints of a demand in their order, each as the switches of which one is to be met. One switch that stands
+    earlier is left out."""
+    chain: list[frozenset[str]] = []
+    for item in demand.get("through", []):
+        switches = frozenset([item] if isinstance(item, str) else item)
+        if len(switches) > 1 or switches not in chain:
+            chain.append(switches)
+    return chain
+
+
+def is_met(chain: Sequence[frozenset[str]], visited: Sequence[str]) -> bool:
+    left = iter(visited)
+    return all(any(switch in switches for switch in left) for switches in chain)
 
 
 class Duties:
@@ -140,14 +164,20 @@ class Duties:
     def __init__(self, demands: Sequence[dict[str, Any]], entry: tuple[str, int, Any], address: int) -> None:
         switch, port, vlan = entry
         self.deliver = False
-        self.chains = []
+        self.chains: list[list[frozenset[str]]] = []
+        self.exits: list[set[tuple[str, int]]] = []
         for demand in demands:
             first, last = bounds(demand["dst"])
-            source = demand.get("from", "any")
-            here = (source == "any" or (switch, port) in map(port_in, [source] if isinstance(source, str) else source))
+            source, exits = demand.get("from", "any"), exits_in(demand)
+            here = (
+                (switch, port) not in (exits or ())
+                if source == "any"
+                else (switch, port) in map(port_in, [source] if isinstance(source, str) else source)
+            )
             here = here and vlan_in(demand.get("vlan", "any")) in (None, vlan)
             if here and first <= address <= last:
-                self.chains.append(list(dict.fromkeys(demand.get("through", []))))
+                self.chains.append(chain_in(demand))
+                self.exits += [exits] if exits is not None else []
                 self.deliver = self.deliver or demand.get("deliver", False)
 
     def broken_by(self, stops: Sequence[tuple[str, int]], end: Sequence[int | str]) -> str | None:
@@ -155,7 +185,9 @@ class Duties:
         if end == ("drop",):
             return "dropped" if self.deliver else None
         visited = [switch for switch, _ in stops]
-        return None if all(is_subsequence(chain, visited) for chain in self.chains) else "missed a waypoint"
+        if not all((visited[-1], end[1]) in exits for exits in self.exits):
+            return "left elsewhere"
+        return None if all(is_met(chain, visited) for chain in self.chains) else "missed a waypoint"
 
 
 @dataclasses.dataclass(frozen=True)
@@ -183,7 +215,7 @@ class Update:
     ) -> None:
         self.network = Network.read(topology)
         self.old, self.new = tables_in(self.network, old), tables_in(self.network, new)
-        self.demands = policy["demands"]
+        self.demands = demands_in(topology, policy)
         self.two_phase = plan["kind"] == "two-phase"
         named = [(item["switch"], rule_in(item)) for item in plan["rules"]]
         self.rounds = [[(named[i][0], (do, named[i][1])) for do, i in round_] for round_ in plan["rounds"]]

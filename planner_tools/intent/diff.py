@@ -307,7 +307,10 @@ def break_words(mark: str | None, has_policy: bool) -> str:
     if not has_policy or mark is None:
         return ""
     how, switch = mark.split(" ")
-    return {"Dropped": ": it must arrive", "Missed": f": it has to meet {switch}", "Loop": ""}[how]
+    return {
+        "Dropped": ": it must arrive", "Leaked": ": it mustn't leave there", "Missed": f": it has to meet {switch}",
+        "Loop": "",
+    }[how]
 
 
 def rule_words(switch: str, old: dict[str, Any] | None, new: dict[str, Any] | None, network: Network) -> str:

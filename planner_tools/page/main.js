@@ -1,6 +1,6 @@
 // The page: what is chosen, and what is shown of it. `view` is for tests and for whoever wants to look closer.
 
-const WALK_OF_REASON = { 6: "loop", 7: "loop", 8: "drop", 9: "missed", 10: "missed", 12: "mixed" };
+const WALK_OF_REASON = { 6: "loop", 7: "loop", 8: "drop", 9: "missed", 10: "missed", 12: "mixed", 14: "leaked" };
 const MOST_LINES = 200;
 // A longer table of rules is scrolled.
 const MOST_ROWS = 40;
@@ -28,7 +28,7 @@ class View {
     this.update = new Update(data);
     this.picture = new Picture(element("picture"), this.update, data.layout);
     this.player = data.schedule ? new Player(this.update, data.schedule) : null;
-    this.waypoints = new Set(this.update.demands.flatMap((demand) => demand.through));
+    this.waypoints = new Set(this.update.demands.flatMap((demand) => demand.through.flat()));
     this.near = false;
     this.search = data.verdict.accepted ? null : new Search(this.update, () => this.drawElsewhere());
     document.body.classList.toggle("alone", this.update.alone);
@@ -212,7 +212,7 @@ class View {
     const none = { places: [], end: { what: "drop", from: 0 } };
     this.shown = { steps: stepsOf(places), bad, turning: new Set(changingPlaces(places).map((place) => place.at)),
       mine: it ? changesOfWalks(update, this.position, places, it.address) : new Set(), oldPath: it ? pathOf(update, update.old, it) : none, newPath: it ? pathOf(update, update.new, it) : none,
-      evidence: it ? update.numbersIn(this.position, this.class) : null, duties: it ? update.duties(it) : { some: false, chains: [], deliver: false } };
+      evidence: it ? update.numbersIn(this.position, this.class) : null, duties: it ? update.duties(it) : { some: false, chains: [], deliver: false, exits: null } };
     if (!this.pinned) this.chosen = this.firstToShow(bad);
     element("switch").value = this.chosen;
     element("switch").title = update.names[this.chosen] || "";
@@ -245,7 +245,7 @@ class View {
     const { steps, bad, oldPath, newPath, evidence, duties } = this.shown, changes = this.update.changesIn(this.position);
     const pending = this.playing ? countedBy([...this.pendingNow()].map((at) => changes[at].rule.at)) : null;
     this.picture.draw({ steps, bad, oldPath: this.update.alone ? { places: [], end: { what: "drop", from: 0 } } : oldPath, newPath, numbers: evidence && evidence.numbers, changing: countedBy(changes.map((change) => change.rule.at)), turning: this.shown.turning, pending,
-      visited: new Set(places.map((place) => place.at)), waypoints: this.waypoints, own: new Set(duties.chains.flat()), chosen: this.chosen,
+      visited: new Set(places.map((place) => place.at)), waypoints: this.waypoints, own: new Set(duties.chains.flat(2)), chosen: this.chosen,
       tagged: this.update.kind === "two-phase", entry: this.class >= 0 ? this.update.classOf(this.class).host : null,
       drops: new Set(steps.filter(({ one }) => one.what === "drop").map(({ place }) => place.at)), packets: this.playing ? this.player.state.packets.filter((packet) => packet.end === null) : [] });
   }
@@ -378,7 +378,7 @@ class View {
     }
     if (!evidence) return [make("p", "The plan has no numbers for them in this round.", { class: "wrong" })];
     const positions = duties.chains.flat();
-    return evidence.befores.map((set, at) => make("p", [make("b", `${at < positions.length ? name(positions[at]) : "waypoint"} is still ahead `),
+    return evidence.befores.map((set, at) => make("p", [make("b", `${at < positions.length ? itemText(update, positions[at]) : "waypoint"} is still ahead `),
       `at ${set.map(name).join(" ") || "no switch"}`], { class: "before" }));
   }
 
@@ -410,6 +410,7 @@ class View {
     const faults = [];
     if (to && evidence && evidence.numbers[to.at] >= evidence.numbers[place.at]) faults.push(make("span", " not lower", { class: "wrong" }));
     if (one.what === "drop" && this.shown.duties.deliver) faults.push(make("span", " must arrive", { class: "wrong" }));
+    if (one.what === "leave" && !this.update.lets(this.shown.duties, place.at, one.port)) faults.push(make("span", " must not leave there", { class: "wrong" }));
     return faults;
   }
 

@@ -77,6 +77,7 @@ class Update {
     for (const changes of this.rounds) for (const change of changes) add(change.rule);
     for (const demand of this.demands) {
       demand.hosts &&= new Set(demand.hosts);
+      demand.exits &&= new Set(demand.exits);
       add(Object.assign(demand, rangeOf(...demand.prefix)));
     }
     const firsts = [...bounds].sort((a, b) => a - b);
@@ -99,18 +100,26 @@ class Update {
   }
 
   demandsOf(it) {
-    return this.demands.filter((demand) => (!demand.hosts || demand.hosts.has(it.host)) && (demand.vlan === ANY_VLAN || demand.vlan === it.vlan)
+    return this.demands.filter((demand) => this.isFrom(demand, it.host) && (demand.vlan === ANY_VLAN || demand.vlan === it.vlan)
       && demand.first <= it.address && it.address <= demand.last);
   }
 
-  // What the policy asks of a class: the chains of waypoints, ascending, each once, and whether its packets must arrive. It is found once.
+  // Whether a demand speaks of packets from a host port. A demand that is for any host port speaks of none that enter at one of its exits.
+  isFrom(demand, host) { return demand.hosts ? demand.hosts.has(host) : !(demand.exits && demand.exits.has(host)); }
+
+  // What the policy asks of a class: the chains of groups of waypoints, ascending, each once, whether its packets must arrive, and by which host ports they
+  // may leave, null for all. It is found once.
   duties(it) { return this.dutiesOf[it.number] ||= this.askedOf(it); }
 
   askedOf(it) {
     const demands = this.demandsOf(it), chains = new Map();
-    for (const demand of demands) if (demand.through.length) chains.set(demand.through.join(), demand.through);
-    return { some: demands.length > 0, deliver: demands.some((demand) => demand.deliver), chains: [...chains.values()].sort(compareLists) };
+    for (const demand of demands) if (demand.through.length) chains.set(demand.through.join(";"), demand.through);
+    return { some: demands.length > 0, deliver: demands.some((demand) => demand.deliver), chains: [...chains.values()].sort(compareChains),
+      exits: exitsOf(demands.filter((demand) => demand.exits).map((demand) => demand.exits)) };
   }
+
+  // Whether packets with these duties may leave there.
+  lets(duties, at, port) { return !duties.exits || duties.exits.has(this.ends[at].get(port).host); }
 
   // The picks of each class by round, or those of the label tables.
   makePicks() {
@@ -215,6 +224,15 @@ function compareLists(a, b) {
   for (let at = 0; at < a.length && at < b.length; at++) if (a[at] !== b[at]) return a[at] - b[at];
   return a.length - b.length;
 }
+
+// Chains item by item, each item as a list of numbers.
+function compareChains(a, b) {
+  for (let at = 0; at < a.length && at < b.length; at++) if (compareLists(a[at], b[at])) return compareLists(a[at], b[at]);
+  return a.length - b.length;
+}
+
+// The host ports that all of these sets have; null where there is no set.
+function exitsOf(sets) { return sets.length ? new Set([...sets[0]].filter((host) => sets.every((set) => set.has(host)))) : null; }
 
 function inOrder(table) { return table.sort(compareRules); }
 

@@ -122,13 +122,15 @@ class Player {
     return found;
   }
 
-  // Whether a packet has come to a switch twice, was dropped though it must arrive, or has left without its waypoints.
+  // Whether a packet has come to a switch twice, was dropped though it must arrive, or has left where it mustn't or without its waypoints.
   isWrong(packet) {
     if (!packet || packet.of < 0) return false;
     const switches = packet.stops.map((stop) => this.update.number.get(stop.slice(0, stop.lastIndexOf(":")))), duties = this.update.duties(this.update.classOf(packet.of));
     if (new Set(switches).size < switches.length) return true;
     if (packet.end === null || packet.end === "lost") return false;
-    return packet.end.startsWith("dropped") ? duties.deliver : !duties.chains.every((chain) => meetsChain(switches, chain));
+    if (packet.end.startsWith("dropped")) return duties.deliver;
+    const [name, port] = packet.end.split(" ")[1].split(":");
+    return !mayLeave(this.update, duties, switches, this.update.number.get(name), Number(port));
   }
 
   // The line of a packet as the planner's replay writes it, with the end that the packet has now in this page.

@@ -4,12 +4,15 @@
 // The switches of a path, in their order.
 function switchesOf(path) { return path.places.map((place) => place.at); }
 
-// Whether switches are met in the order of a chain.
+// Whether switches meet the groups of a chain in their order.
 function meetsChain(switches, chain) {
   let at = 0;
-  for (const one of switches) if (one === chain[at]) at++;
+  for (const one of switches) if (at < chain.length && chain[at].includes(one)) at++;
   return at === chain.length;
 }
+
+// Whether packets with these duties may leave so: by a port where they may, with their waypoints met.
+function mayLeave(update, duties, switches, at, port) { return update.lets(duties, at, port) && duties.chains.every((chain) => meetsChain(switches, chain)); }
 
 // The ports out of which a path goes, as `switch:port`.
 function outsOf(update, path) {
@@ -23,16 +26,19 @@ function outsOf(update, path) {
 // A path in short: what becomes of its packets, by which ports they go, over which switches, and whether their waypoints are met.
 function fateOfPath(update, path, duties) {
   const outs = outsOf(update, path), switches = switchesOf(path), ends = path.end.what;
-  return { ends, way: `${outs.join(" ")} ${ends}`, outs, switches, isWrong: ends === "loop" || ends === "drop" && duties.deliver || ends === "leave" && !duties.chains.every((chain) => meetsChain(switches, chain)),
+  return { ends, way: `${outs.join(" ")} ${ends}`, outs, switches, isWrong: ends === "loop" || ends === "drop" && duties.deliver || ends === "leave" && !mayLeave(update, duties, switches, path.end.at, path.end.port),
     met: duties.chains.length && ends === "leave" ? duties.chains.every((chain) => meetsChain(switches, chain)) : null };
 }
+
+// Whether a chain may be missed on walks, of which one that is bad was found.
+function missesSome(places, duties, bad) { return bad.kind === "leaked" ? duties.chains.some((chain) => missedIn(places, chain)) : bad.kind === "missed"; }
 
 // The same of the walks of a class in a round, whose packets may go several ways.
 function fateOfWalks(update, position, it, places, duties) {
   const steps = stepsOf(places), bad = badWalk(update, position, it, places, null), has = (what) => steps.some(({ one }) => one.what === what);
   const outs = [...new Set(steps.filter(({ one }) => one.what !== "drop").map(({ place, one }) => `${place.at}:${one.what === "go" ? one.out : one.port}`))];
   const ends = bad && bad.kind === "loop" ? "loop" : has("leave") ? (has("drop") ? "either" : "leave") : "drop";
-  return { ends, way: null, outs, switches: [...new Set(places.map((place) => place.at))], isWrong: bad !== null, met: duties.chains.length && has("leave") ? !bad || bad.kind !== "missed" : null };
+  return { ends, way: null, outs, switches: [...new Set(places.map((place) => place.at))], isWrong: bad !== null, met: duties.chains.length && has("leave") ? !bad || !missesSome(places, duties, bad) : null };
 }
 
 class Survey {

@@ -5,11 +5,14 @@ The planner has read the files before, so nothing is checked here.
 A rule is a list: switch, priority, ingress port (0 for any), VLAN (-1 for any, 0 for untagged), first address and
 length of the prefix, output (0 for drop), and what is done with the VLAN (0 nothing, -1 the tag is stripped, else this
 id is set). Switches and host ports have their numbers. A demand has the host ports at which its packets enter, or null
-for any.
+for any, the groups of its waypoints, ascending, and the host ports by which its packets may leave, or null for all.
 """
 from __future__ import annotations
 
 import json
+
+from planner_tools.members import is_wide
+from planner_tools.network import exits_of, items_of
 
 TYPE_CHECKING = False
 if TYPE_CHECKING:
@@ -67,6 +70,7 @@ class Files:
         self.links = [[*self.port_of(one), *self.port_of(other)] for one, other in topology["links"]]
         self.hosts = [self.port_of(host) for host in topology["hosts"]]
         self.number_of_host = {tuple(host): number for number, host in enumerate(self.hosts)}
+        self.is_wide = is_wide(topology.get("format"))
         self.vlans = [vlan_of(vlan) for vlan in topology["vlans"]]
 
     def port_of(self, text: str) -> list[int]:
@@ -94,12 +98,18 @@ class Files:
     def demand_of(self, demand: dict[str, Any]) -> dict[str, Any]:
         source = demand.get("from", "any")
         ports = source if isinstance(source, list) else [source]
-        hosts = None if source == "any" else sorted({self.number_of_host[tuple(self.port_of(port))] for port in ports})
-        through = list(dict.fromkeys(self.number_of[name] for name in demand.get("through", [])))
+        hosts = None if source == "any" else self.numbers_of_hosts(ports)
+        through = [sorted(self.number_of[name] for name in item) for item in items_of(demand)]
+        exits = exits_of(demand, self.is_wide)
         return {
             "hosts": hosts, "vlan": vlan_of(demand.get("vlan", "any")), "prefix": prefix_of(demand["dst"]),
             "through": through, "deliver": demand.get("deliver", False),
+            "exits": None if exits is None else self.numbers_of_hosts(exits),
         }
+
+    def numbers_of_hosts(self, ports: list[str]) -> list[int]:
+        """Returns the numbers of host ports, ascending, each once."""
+        return sorted({self.number_of_host[tuple(self.port_of(port))] for port in ports})
 
     def read_plan(self, plan: dict[str, Any]) -> None:
         self.kind = plan["kind"]

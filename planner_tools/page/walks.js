@@ -41,17 +41,18 @@ function pathOf(update, tables, it) {
   }
 }
 
-// A walk that the policy forbids, or null: its kind, its places with what they do, and for a waypoint that was missed which one. The kind that is
+// A walk that the policy forbids, or null: its kind, its places with what they do, and for a group of waypoints that was missed which one. The kind that is
 // asked for is looked for first.
 function badWalk(update, position, it, places, wanted) {
   const duties = update.duties(it);
   const kinds = {
     loop: () => goesOnlyDown(update, places) ? null : loopIn(places),
     drop: () => duties.deliver ? firstWalk(places, null, (place) => place.outcomes.find((one) => one.what === "drop")) : null,
+    leaked: () => duties.exits ? firstWalk(places, null, (place) => place.outcomes.find((one) => one.what === "leave" && !update.lets(duties, place.at, one.port))) : null,
     missed: () => duties.chains.map((chain) => missedIn(places, chain)).find((walk) => walk) || null,
     mixed: () => update.kind === "two-phase" ? mixedIn(update, it, places) : null,
   };
-  for (const kind of [wanted, "loop", "drop", "missed", "mixed"]) {
+  for (const kind of [wanted, "loop", "drop", "leaked", "missed", "mixed"]) {
     const walk = kind && kinds[kind]();
     if (walk) return { kind, ...walk };
   }
@@ -139,9 +140,9 @@ function firstWalk(places, start, isEnd, next = (carried) => carried) {
   return null;
 }
 
-// The shortest walk that leaves the network before all waypoints of a chain were met in their order.
+// The shortest walk that leaves the network before all groups of waypoints of a chain were met in their order.
 function missedIn(places, chain) {
-  const met = (count, place) => count + (chain[count] === place.at ? 1 : 0);
+  const met = (count, place) => count + (count < chain.length && chain[count].includes(place.at) ? 1 : 0);
   let missed = null;
   const walk = firstWalk(places, met(0, places[0]), (place, count) => {
     missed = chain[count];

@@ -82,8 +82,22 @@ function pathText(update, path) { return `${shortened(path.places.map((it) => up
 
 function dutiesText(update, duties) {
   if (!duties.some) return "The policy demands nothing of these packets; like all, they must not come to a switch twice.";
-  const chains = duties.chains.map((chain) => `must have met ${chain.map((at) => update.names[at]).join(" and then ")} when they leave`);
-  return `By the policy these packets ${[...chains, duties.deliver ? "must arrive" : "may be dropped"].join(", and ")}.`;
+  const chains = duties.chains.map((chain) => `must have met ${chain.map((item) => itemText(update, item)).join(" and then ")} when they leave`);
+  return `By the policy these packets ${[...chains, ...exitsText(update, duties), duties.deliver ? "must arrive" : "may be dropped"].join(", and ")}.`;
+}
+
+// A group of waypoints.
+function itemText(update, item) { return item.map((at) => update.names[at]).join(" or "); }
+
+// So many host ports are named by which packets may leave.
+const MOST_EXITS = 12;
+
+// By which host ports packets may leave, where the policy says that.
+function exitsText(update, duties) {
+  if (!duties.exits) return [];
+  const ports = [...duties.exits].map((host) => hostText(update, host));
+  const more = ports.length > MOST_EXITS ? ` or ${ports.length - MOST_EXITS} more` : "";
+  return [ports.length ? `may leave only at ${ports.slice(0, MOST_EXITS).join(" or ")}${more}` : "must not leave"];
 }
 
 // What the state of a switch is when it makes an outcome.
@@ -107,7 +121,8 @@ function badText(update, it, walk) {
   if (update.alone) return sureText(update, packet, walk, last, names);
   if (walk.kind === "loop") return `${packet} can come back to ${last}, where it has been: ${shortened(names)}.`;
   if (walk.kind === "drop") return `${packet} can be dropped by ${last}, though it must arrive: ${shortened(names)}.`;
-  if (walk.kind === "missed") return `${packet} can leave the network without having met ${update.names[walk.missed]} in its place: ${shortened(names)}.`;
+  if (walk.kind === "leaked") return `${packet} can leave the network at ${last}, by port ${leftBy(walk)}, where it must not: ${shortened(names)}.`;
+  if (walk.kind === "missed") return `${packet} can leave the network without having met ${itemText(update, walk.missed)} in its place: ${shortened(names)}.`;
   const end = walk.steps[walk.steps.length - 1].one, way = end.what === "go" ? [...names, update.names[end.at]] : names;
   return `${packet} can go neither the old path nor the new one: ${shortened(way)}.`;
 }
@@ -116,8 +131,12 @@ function badText(update, it, walk) {
 function sureText(update, packet, walk, last, names) {
   if (walk.kind === "loop") return `${packet} comes back to ${last}, where it has been: ${shortened(names)}.`;
   if (walk.kind === "drop") return `${packet} is dropped by ${last}, though it must arrive: ${shortened(names)}.`;
-  return `${packet} leaves the network without having met ${update.names[walk.missed]} in its place: ${shortened(names)}.`;
+  if (walk.kind === "leaked") return `${packet} leaves the network at ${last}, by port ${leftBy(walk)}, where it must not: ${shortened(names)}.`;
+  return `${packet} leaves the network without having met ${itemText(update, walk.missed)} in its place: ${shortened(names)}.`;
 }
+
+// The port by which the packet of a walk leaves.
+function leftBy(walk) { return walk.steps[walk.steps.length - 1].one.port; }
 
 // What each switch of a bad walk does, one sentence a switch.
 function badSteps(update, walk) {

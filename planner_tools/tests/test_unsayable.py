@@ -1,4 +1,5 @@
-"""Members that this version can't say: each is named in each kind of object, with what the object is without it."""
+"""Members that this version can't say, or a narrow network: each is named in each kind of object, with what the object
+is without it."""
 import json
 import os
 import sys
@@ -7,7 +8,7 @@ import unittest
 
 sys.path.insert(0, os.path.dirname(os.path.dirname(os.path.dirname(os.path.realpath(__file__)))))
 from planner_tools.cautions import INNER, member_cautions  # noqa: E402
-from planner_tools.members import MEMBERS, OF_OTHERS, UNSAYABLE  # noqa: E402
+from planner_tools.members import MEMBERS, OF_OTHERS, OF_WIDE, UNSAYABLE  # noqa: E402
 from planner_tools.proved import Given  # noqa: E402
 
 
@@ -33,7 +34,8 @@ class Unsayable(unittest.TestCase):
                         else:
                             value[name] = 2
                         [what] = self.said(kind, value)
-                        ending = f"counts for nothing: this version can't say it, {without}"
+                        who = "a narrow network" if of == "demand" and name in OF_WIDE[of] else "this version"
+                        ending = f"counts for nothing: {who} can't say it, {without}"
                         self.assertTrue(what.endswith(ending), what)
 
     def test_none_of_them_is_a_member(self):
@@ -44,7 +46,7 @@ class Unsayable(unittest.TestCase):
         for number in (1, 2, 3, "2"):
             self.assertEqual([], self.said("topology", {"format": number, "switches": []}), number)
 
-    def test_what_a_wide_network_reads_or_refuses_doesnt_count_for_nothing(self):
+    def test_what_a_wide_network_reads_doesnt_count_for_nothing(self):
         """And what it passes over does."""
         wide, narrow = ({"format": number, "switches": []} for number in (2, 1))
         demands = {"demands": [{"dst": "10.0.0.0/24", "to": ["s1:1"], "deny": True, "src": "10.0.1.0/24"}]}
@@ -63,7 +65,7 @@ class Unsayable(unittest.TestCase):
                 self.assertEqual(len(names), len(said), said)
                 for name, what in zip(names, said):
                     self.assertIn(f": {name}", what)
-                    self.assertIn("this version can't say it", what)
+                    self.assertRegex(what, "(this version|a narrow network) can't say it")
 
 
 if __name__ == "__main__":

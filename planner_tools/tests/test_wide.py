@@ -80,18 +80,32 @@ class Demands(unittest.TestCase):
             ({"from": 1024 * ["a:3"] + ["c:1"]}, [("TooMany from 0", "demands[0].from"),
                                                   ("UnknownSwitch 0", item.format(1024))]),
             ({"from": ["a:1", 7]}, [("NotHost 0", item.format(0)), ("Shape from 0", item.format(1))]),
-            ({"to": ["a:2"]}, [("Shape to 0", "demands[0].to")]), ({"to": None}, [("Shape to 0", "demands[0].to")]),
-            ({"deny": False}, [("Shape deny 0", "demands[0].deny")]),
-            ({"deny": True, "to": []}, [("Shape to 0", "demands[0].to"), ("Shape deny 0", "demands[0].deny")]),
-            ({"deliver": 1, "to": []}, [("Shape deliver 0", "demands[0].deliver"), ("Shape to 0", "demands[0].to")]),
-            ({"through": [["a", "b"]]}, [("Shape through 0", "demands[0].through[0]")]),
-            ({"through": ["a", ["b"]], "deliver": True}, [("Shape through 0", "demands[0].through[1]")]),
+            ({"to": ["a:2"]}, []), ({"to": []}, []), ({"to": 1024 * ["a:2"]}, []), ({"deny": False}, []),
+            ({"deny": True}, []), ({"deny": True, "deliver": False, "through": []}, []),
+            ({"deny": False, "to": []}, []),
+            *(({"to": one}, [("Shape to 0", "demands[0].to")]) for one in (None, "any", "a:2", {}, 1)),
+            *(({"to": [one]}, [("Shape to 0", "demands[0].to[0]")]) for one in ("any", "a", None, 1, [])),
+            ({"to": ["a:2", "c:1"]}, [("UnknownSwitch 0", "demands[0].to[1]")]),
+            ({"to": ["a:1"]}, [("NotHost 0", "demands[0].to[0]")]),
+            ({"to": 1025 * ["a:2"]}, [("TooMany to 0", "demands[0].to")]),
+            *(({"deny": one}, [("Shape deny 0", "demands[0].deny")]) for one in (None, 1, "true", [])),
+            *(({"deny": True, **one}, [("BadDemand 0", "demands[0].deny")])
+              for one in ({"to": []}, {"deliver": True}, {"through": ["a"]})),
+            ({"deliver": 1, "to": 1}, [("Shape deliver 0", "demands[0].deliver"), ("Shape to 0", "demands[0].to")]),
+            ({"through": [["a", "b"]]}, []), ({"through": ["a", ["b"]], "deliver": True}, []),
+            ({"through": [["b", "a", "b"]]}, []), ({"through": [1024 * ["a"]]}, []),
+            *(({"through": ["a", one]}, [("Shape through 0", "demands[0].through[1]")]) for one in ([], {}, 1, None)),
+            ({"through": [["a", 1]]}, [("Shape through 0", "demands[0].through[0][1]")]),
+            ({"through": [["a", ["b"]]]}, [("Shape through 0", "demands[0].through[0][1]")]),
+            ({"through": [["c"], "a"]}, [("UnknownSwitch 0", "demands[0].through[0][0]")]),
+            ({"through": [1025 * ["a"]]}, [("TooMany through 0", "demands[0].through[0]")]),
+            ({"through": 17 * [["a", "b"]]}, [("TooMany through 0", "demands[0].through")]),
         ):
             with self.subTest(more=str(more)[:60]):
                 self.assertEqual(wanted, found("policy", {"demands": [{**DST, **more}]}, WIDE))
 
     def test_the_place_is_the_demand(self):
-        demands = [DST, DST, {**DST, "from": ["a:2", "a:1"], "deny": False}]
+        demands = [DST, DST, {**DST, "from": ["a:2", "a:1"], "deny": 0}]
         self.assertEqual(
             [("NotHost 2", "demands[2].from[1]"), ("Shape deny 2", "demands[2].deny")],
             found("policy", {"demands": demands}, WIDE),
@@ -102,6 +116,7 @@ class Demands(unittest.TestCase):
             for more, wanted in (
                 ({"from": ["a:2"]}, [("Shape from 0", "demands[0].from")]), ({"to": 1, "deny": 1}, []),
                 ({"from": []}, [("Shape from 0", "demands[0].from")]),
+                ({"through": ["a", ["b"]]}, [("Shape through 0", "demands[0].through[1]")]),
             ):
                 self.assertEqual(wanted, found("policy", {"demands": [{**DST, **more}]}, topology), more)
 

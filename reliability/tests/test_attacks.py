@@ -148,6 +148,25 @@ class Exploring(WithFolder):
     def test_a_missed_waypoint_and_a_drop_are_found(self):
         self.assertEqual(self.wrong_with_rounds([3], True) - {"mixed path"}, {"missed a waypoint", "dropped"})
 
+    def test_what_exits_and_groups_ask(self):
+        entry, others, stops = ("s", 1, 0), ("d", 3, 0), (("s", 1), ("x", 1), ("d", 2))
+        for asked, wanted in (
+            ({}, None), ({"to": ["d:3"]}, None), ({"to": ["s:1", "d:3"]}, None), ({"to": ["s:1"]}, None),
+            ({"from": "s:1", "to": ["s:1"]}, "left elsewhere"), ({"to": []}, "left elsewhere"),
+            ({"deny": True}, "left elsewhere"), ({"deny": False}, None),
+            ({"to": ["d:4"], "through": ["w"]}, "left elsewhere"), ({"through": [["w", "x"]]}, None),
+            ({"through": [["w", "x"], "x"]}, "missed a waypoint"), ({"through": [["w", "x"], ["x", "d"]]}, None),
+            ({"through": ["x", ["x"], "d"]}, None), ({"through": [["w", "y"]]}, "missed a waypoint"),
+        ):
+            demand = {"dst": "10.0.0.0/24", **asked}
+            duties = model.Duties(model.demands_in({"format": 2}, {"demands": [demand]}), entry, 0x0A000000)
+            self.assertEqual(wanted, duties.broken_by(stops, ("leave", 3, 0)), asked)
+            narrow = model.Duties(model.demands_in({}, {"demands": [demand]}), entry, 0x0A000000)
+            self.assertEqual([], narrow.exits)
+        both = [{"dst": "10.0.0.0/24", "to": ["d:3", "s:4"]}, {"dst": "10.0.0.0/8", "to": ["s:4"]}]
+        self.assertEqual("left elsewhere", model.Duties(both, entry, 0x0A000000).broken_by(stops, ("leave", 3, 0)))
+        self.assertEqual([], model.Duties(both[:1], others, 0x0A000000).exits)
+
     def test_a_mixed_path_is_found(self):
         self.assertIn("mixed path", self.wrong_with_rounds([3], False))
         self.assertEqual(self.wrong_with_rounds([0, 1, 2, 3], False), set())

@@ -6,9 +6,10 @@ use Rattle.std.proofs.lemmas.Option.{slice_get-get_or}
 use Rattle.net_base.specs.Members.{IsIn, IsDistinct, IsSubsequence}
 use Rattle.net_base.specs.Walks.{IsWalk, end_of}
 use Rattle.net_base.specs.declared.ids.Place.{Place}
+use Rattle.net_base.specs.declared.ids.Stop.{Stop}
 use Rattle.net_base.specs.declared.ids.SwitchId.{SwitchId}
 use Rattle.net_base.proofs.ItemLaws.{distinct_first, get_from_in, past_end}
-use Rattle.net_base.proofs.MemberLaws.{in_append_cases, IsSubsequence-last, in_from_subsequence}
+use Rattle.net_base.proofs.MemberLaws.{in_append_cases, IsSubsequence-last, in_from_subsequence, meets_singles}
 use Rattle.net_base.proofs.NameLaws.{same_switch}
 use Rattle.demands.specs.Duties.{PacketDuties}
 use Rattle.update_model.specs.Mixtures.{Rollout, IsMixedWalk}
@@ -16,7 +17,7 @@ use Rattle.certificates.specs.Steps.{switches_along}
 use Rattle.breaking_walks.specs.Breaking.{switches_before, HasBreakingWalk}
 use Rattle.breaking_walks.specs.declared.search.Aim.TheVariants.{Meet}
 use Rattle.breaking_walks.specs.Searches.{IsFound, IsNoneFound}
-use Rattle.breaking_walks.specs.Broken.{IsBroken, IsNoneDropped, IsNoneUnmet, IsNoneUnmetTo, IsNoneTwice}
+use Rattle.breaking_walks.specs.Broken.{IsBroken, IsNoneDropped, IsNoneElsewhere, IsNoneBad, IsNoneUnmet, IsNoneUnmetTo, IsNoneTwice}
 
 -- ---- the switches of a walk
 
@@ -94,14 +95,22 @@ comes_twice start rest i =
     subst (IsSubsequence ((end_of start rest).switch ∷ (end_of start rest).switch ∷ [])) (sym (along_split start rest)) (twice_in (end_of start rest).switch (switches_before start rest) i)
 
 module _ (u : Rollout) (k dst : ℕ) (entry : Place) (duties : PacketDuties) where
+  -- none leaves badly where none leaves elsewhere than at an exit and none with a chain unmet
+  pub none_bad : IsNoneElsewhere u k dst entry duties → IsNoneUnmet u k dst entry duties → IsNoneBad u k dst entry duties
+  none_bad elsewhere unmet rest walk leaves =
+      elim leaves.bad [
+        | inl out ↦ elsewhere rest walk (record { port = leaves.port; vlan = leaves.vlan; leaves = leaves.leaves; elsewhere = out })
+        | inr misses ↦ unmet rest walk misses (record { port = leaves.port; vlan = leaves.vlan; leaves = leaves.leaves })
+      ]
+
   -- a walk that breaks the duties breaks them in one of three ways
   pub none_breaks : (n : ℕ) → ((rest : List Place) → IsMixedWalk u k dst entry rest → (end_of entry rest).switch.0 < n)
-      → IsNoneDropped u k dst entry duties → IsNoneUnmet u k dst entry duties → IsNoneTwice u k dst entry n → ¬ HasBreakingWalk u k dst entry duties
-  none_breaks n within dropped unmet twice has =
+      → IsNoneDropped u k dst entry duties → IsNoneBad u k dst entry duties → IsNoneTwice u k dst entry n → ¬ HasBreakingWalk u k dst entry duties
+  none_breaks n within dropped good twice has =
       elim has.breaks [
         | inl again ↦ twice has.rest has.walk (within has.rest has.walk) again
         | inr other ↦ elim other [
-          | inl leaves ↦ unmet has.rest has.walk leaves
+          | inl leaves ↦ good has.rest has.walk leaves
           | inr drops ↦ dropped has.rest has.walk drops.0 drops.1
         ]
       ]
@@ -109,22 +118,21 @@ module _ (u : Rollout) (k dst : ℕ) (entry : Place) (duties : PacketDuties) whe
   -- ---- what was found
 
   -- where one comes twice to a switch
-  pub twice_broken : (s : SwitchId) (rest : List Place) → IsFound u k dst entry (s ∷ s ∷ []) Meet rest → IsBroken u k dst entry duties rest None
-  twice_broken s rest found = record { walk = found.walk; by = not_twice s (switches_along entry rest) found.aimed }
+  pub twice_broken : (exits : List (List Stop)) (s : SwitchId) (rest : List Place) → IsFound u k dst entry exits ((s ∷ []) ∷ (s ∷ []) ∷ []) Meet rest → IsBroken u k dst entry duties rest None
+  twice_broken exits s rest found = record { walk = found.walk; by = not_twice s (switches_along entry rest) ((meets_singles (s ∷ s ∷ []) (switches_along entry rest)).1 found.aimed) }
 
   -- ---- what wasn't
 
   -- all chains
-  pub none_unmet_all : (n : ℕ) → length duties.chains ≤ n → IsNoneUnmetTo u k dst entry duties.chains n → IsNoneUnmet u k dst entry duties
-  none_unmet_all n all none rest walk leaves =
-      let misses = leaves.misses in
+  pub none_unmet_all : (n : ℕ) → length duties.chains ≤ n → IsNoneUnmetTo u k dst entry duties.exits duties.chains n → IsNoneUnmet u k dst entry duties
+  none_unmet_all n all none rest walk misses leaves =
       let (i, at) = get_from_in duties.chains misses.chain misses.asked in
       let within = past_end duties.chains i misses.chain at in
-      none i misses.chain (omega arith) at rest (record { walk = walk; aimed = (misses.missed, record { port = leaves.port; vlan = leaves.vlan; leaves = leaves.leaves }) })
+      none i misses.chain (omega arith) at rest (record { walk = walk; aimed = (misses.missed, leaves) })
 
 -- one switch more
-pub none_twice_next : (u : Rollout) (k dst : ℕ) (entry : Place) (s : SwitchId) → IsNoneFound u k dst entry (s ∷ s ∷ []) Meet → IsNoneTwice u k dst entry s.0 → IsNoneTwice u k dst entry (s.0 + 1)
-none_twice_next u k dst entry s none below rest walk less again =
+pub none_twice_next : (u : Rollout) (k dst : ℕ) (entry : Place) (exits : List (List Stop)) (s : SwitchId) → IsNoneFound u k dst entry exits ((s ∷ []) ∷ (s ∷ []) ∷ []) Meet → IsNoneTwice u k dst entry s.0 → IsNoneTwice u k dst entry (s.0 + 1)
+none_twice_next u k dst entry exits s none below rest walk less again =
     let last = end_of entry rest in
     elim (cases_lt last.switch.0 s.0) [
       | inl lower ↦ below rest walk lower again
@@ -132,6 +140,7 @@ none_twice_next u k dst entry s none below rest walk less again =
           let same : last.switch ≡ s = same_switch last.switch s (omega arith) in
           none rest (record {
             walk = walk;
-            aimed = subst (λ (t : SwitchId). IsSubsequence (t ∷ t ∷ []) (switches_along entry rest)) same (comes_twice entry rest again);
+            aimed = (meets_singles (s ∷ s ∷ []) (switches_along entry rest)).0
+                (subst (λ (t : SwitchId). IsSubsequence (t ∷ t ∷ []) (switches_along entry rest)) same (comes_twice entry rest again));
           }))
     ]

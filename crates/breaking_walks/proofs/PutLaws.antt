@@ -18,7 +18,7 @@ kept_in old more node i =
     let (f, j, e) = in_from_map (λ (g : Found). g.0) node old i in
     subst (λ n. IsIn n (nodes_of (old ++ more))) (sym e) (in_map (λ (g : Found). g.0) f (old ++ more) (in_append_left f old more j))
 
-module _ (old : List Found) (chain : List SwitchId) (node : Node) (number : ℕ) where
+module _ (old : List Found) (chain : List (List SwitchId)) (node : Node) (number : ℕ) where
   -- no outcome
   pub put_none : ArePut old chain node number [] old
   put_none = record {

@@ -47,7 +47,7 @@ one_at x y (suc n) lt e = let f : None ≡ Some y = e in cc
 -- ---- nodes along places
 
 -- the node after steps to these places
-abbrev pub node_along : List SwitchId → Node → List Place → Node
+abbrev pub node_along : List (List SwitchId) → Node → List Place → Node
 node_along chain node [] = node
 node_along chain node (place ∷ rest) = node_along chain (node_after chain node place) rest
 
@@ -55,7 +55,7 @@ abbrev pub node_at : Place → ℕ → Node
 node_at place met = record { place = place; met = met }
 
 -- it is at the last of them, with what is met along their switches
-pub along_is : (chain : List SwitchId) (node : Node) (rest : List Place)
+pub along_is : (chain : List (List SwitchId)) (node : Node) (rest : List Place)
     → node_along chain node rest ≡ node_at (end_of node.place rest) (met_along chain node.met (map (λ (p : Place). p.switch) rest))
 along_is chain node [] = refl
 along_is chain node (place ∷ rest) = along_is chain (node_after chain node place) rest
@@ -63,24 +63,24 @@ along_is chain node (place ∷ rest) = along_is chain (node_after chain node pla
 -- ---- trails
 
 -- a step leads to the node from that with the number beside it
-pub record IsLed (step : Place → Place → Type 0) (chain : List SwitchId) (trail : List Found) (found : Found) : Type 0 where
+pub record IsLed (step : Place → Place → Type 0) (chain : List (List SwitchId)) (trail : List Found) (found : Found) : Type 0 where
   pub before : Found
   pub at : slice_get trail found.1 ≡ Some before
   pub goes : step before.0.place found.0.place
   pub is : found.0 ≡ node_after chain before.0 found.0.place
 
 -- the first node is at the entry, and steps lead to the others
-pub record IsTrail (step : Place → Place → Type 0) (chain : List SwitchId) (entry : Place) (trail : List Found) : Type 0 where
+pub record IsTrail (step : Place → Place → Type 0) (chain : List (List SwitchId)) (entry : Place) (trail : List Found) : Type 0 where
   pub begins : slice_get trail 0 ≡ Some (first_node chain entry, 0)
   pub led : (number : ℕ) (found : Found) → 0 < number → slice_get trail number ≡ Some found → IsLed step chain trail found
 
 -- the nodes are a trail; what the first of them lead to, so many, stands there, and none of those is looked for
-pub record IsSearchedTo (step : Place → Place → Type 0) (chain : List SwitchId) (entry : Place) (aimed : Node → Type 0) (next : ℕ) (trail : List Found) : Type 0 where
+pub record IsSearchedTo (step : Place → Place → Type 0) (chain : List (List SwitchId)) (entry : Place) (aimed : Node → Type 0) (next : ℕ) (trail : List Found) : Type 0 where
   pub is_trail : IsTrail step chain entry trail
   pub goes : (found : Found) (place : Place) → IsIn found (take next trail) → step found.0.place place → IsIn (node_after chain found.0 place) (nodes_of trail)
   pub none : (found : Found) → IsIn found (take next trail) → ¬ aimed found.0
 
-module _ (step : Place → Place → Type 0) (chain : List SwitchId) (entry : Place) where
+module _ (step : Place → Place → Type 0) (chain : List (List SwitchId)) (entry : Place) where
   -- the places that lead to a node are a walk to it
   module _ (trail : List Found) (is_trail : IsTrail step chain entry trail) where
     pub way_is : (to : ℕ) (last : Found) → slice_get trail to ≡ Some last → (rest : List Place) (from : ℕ) (found : Found) → slice_get trail from ≡ Some found → IsWayTo trail to from rest

@@ -4,6 +4,7 @@ use Rattle.net_base.specs.Members.{IsIn, IsDistinct}
 use Rattle.net_base.specs.Walks.{end_of}
 use Rattle.net_base.specs.declared.ids.SwitchId.{SwitchId}
 use Rattle.net_base.specs.declared.ids.Place.{Place}
+use Rattle.net_base.specs.declared.ids.Stop.{Stop}
 use Rattle.path_walk.specs.declared.Outcome.{Outcome}
 use Rattle.path_walk.specs.declared.Outcome.TheVariants.{Discard, Leave, Go}
 use Rattle.dest_classes.specs.declared.Class.{Class}
@@ -14,13 +15,13 @@ use Rattle.breaking_walks.specs.declared.search.Aim.TheVariants.{LeaveUnmet}
 use Rattle.breaking_walks.specs.declared.BreakingWalk.{BreakingWalk}
 use Rattle.breaking_walks.specs.declared.round.PreparedRound.{PreparedRound}
 use Rattle.breaking_walks.specs.Rounds.{round_rollout}
-use Rattle.breaking_walks.specs.Searches.{IsNoneFound}
-use Rattle.breaking_walks.specs.Breaking.{MissesSome, MayLeaveUnmet, switches_before}
+use Rattle.breaking_walks.specs.Searches.{MayLeaveAt, MayLeaveElsewhereAt, IsNoneFound}
+use Rattle.breaking_walks.specs.Breaking.{IsBadExit, MissesSome, MayLeaveBadly, switches_before}
 
 -- how a walk breaks: by a switch that stands twice, or by an outcome at its last place
 abbrev pub BrokenBy : Rollout → ℕ → ℕ → Place → PacketDuties → List Place → Option Outcome → Type 0
 BrokenBy u k dst entry duties rest None = ¬ IsDistinct (switches_along entry rest)
-BrokenBy u k dst entry duties rest (Some (Leave port vlan)) = IsPossible u k dst (end_of entry rest) (Leave port vlan) × MissesSome duties.chains (switches_along entry rest)
+BrokenBy u k dst entry duties rest (Some (Leave port vlan)) = IsPossible u k dst (end_of entry rest) (Leave port vlan) × IsBadExit duties (switches_along entry rest) (end_of entry rest) port
 BrokenBy u k dst entry duties rest (Some Discard) = IsPossible u k dst (end_of entry rest) Discard × IsTrue duties.arrive
 BrokenBy u k dst entry duties rest (Some (Go next)) = ⊥
 
@@ -38,13 +39,22 @@ IsBrokenIn round demands class w =
 abbrev pub IsNoneDropped : Rollout → ℕ → ℕ → Place → PacketDuties → Type 0
 IsNoneDropped u k dst entry duties = (rest : List Place) → IsMixedWalk u k dst entry rest → IsTrue duties.arrive → ¬ IsPossible u k dst (end_of entry rest) Discard
 
+-- no packet may leave elsewhere than at an exit
+abbrev pub IsNoneElsewhere : Rollout → ℕ → ℕ → Place → PacketDuties → Type 0
+IsNoneElsewhere u k dst entry duties = (rest : List Place) → IsMixedWalk u k dst entry rest → ¬ MayLeaveElsewhereAt u k dst (end_of entry rest) duties.exits
+
 -- no packet may leave with a chain unmet
 abbrev pub IsNoneUnmet : Rollout → ℕ → ℕ → Place → PacketDuties → Type 0
-IsNoneUnmet u k dst entry duties = (rest : List Place) → IsMixedWalk u k dst entry rest → ¬ MayLeaveUnmet u k dst (end_of entry rest) duties.chains (switches_along entry rest)
+IsNoneUnmet u k dst entry duties =
+    (rest : List Place) → IsMixedWalk u k dst entry rest → MissesSome duties.chains (switches_along entry rest) → ¬ MayLeaveAt u k dst (end_of entry rest)
 
--- nor with one of the first n chains unmet
-abbrev pub IsNoneUnmetTo : Rollout → ℕ → ℕ → Place → List (List SwitchId) → ℕ → Type 0
-IsNoneUnmetTo u k dst entry chains n = (i : ℕ) (chain : List SwitchId) → i < n → slice_get chains i ≡ Some chain → IsNoneFound u k dst entry chain LeaveUnmet
+-- no packet may leave elsewhere than at an exit, or with a chain unmet
+abbrev pub IsNoneBad : Rollout → ℕ → ℕ → Place → PacketDuties → Type 0
+IsNoneBad u k dst entry duties = (rest : List Place) → IsMixedWalk u k dst entry rest → ¬ MayLeaveBadly u k dst (end_of entry rest) duties (switches_along entry rest)
+
+-- no packet may leave with one of the first n chains unmet
+abbrev pub IsNoneUnmetTo : Rollout → ℕ → ℕ → Place → List (List Stop) → List (List (List SwitchId)) → ℕ → Type 0
+IsNoneUnmetTo u k dst entry exits chains n = (i : ℕ) (chain : List (List SwitchId)) → i < n → slice_get chains i ≡ Some chain → IsNoneFound u k dst entry exits chain LeaveUnmet
 
 -- no packet may come twice to one of the first n switches
 abbrev pub IsNoneTwice : Rollout → ℕ → ℕ → Place → ℕ → Type 0

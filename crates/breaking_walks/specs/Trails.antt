@@ -1,27 +1,30 @@
 -- The nodes that a search among mixed walks finds, and which of them led to which.
 use Rattle.std.specs.Prelude.{◌≡◌, ◌⊎◌, ℕ, ◌+◌, ◌<◌, false, List, [], ◌∷◌, ◌++◌, map, slice_get, Some, if◌then◌else◌, ◌==◌, length}
+use Rattle.std.specs.List.{list_any}
 use Rattle.std.specs.Option.{option_map_or}
 use Rattle.net_base.specs.Members.{IsIn}
 use Rattle.net_base.specs.declared.ids.SwitchId.{SwitchId}
 use Rattle.net_base.specs.declared.ids.Port.{Port}
 use Rattle.net_base.specs.declared.ids.Vlan.{Vlan}
 use Rattle.net_base.specs.declared.ids.Place.{Place}
+use Rattle.net_base.specs.declared.ids.Stop.{Stop}
+use Rattle.demands.specs.Duties.{lets}
 use Rattle.path_walk.specs.declared.Outcome.{Outcome}
 use Rattle.path_walk.specs.declared.Outcome.TheVariants.{Discard, Leave, Go}
 use Rattle.breaking_walks.specs.declared.search.Aim.{Aim}
-use Rattle.breaking_walks.specs.declared.search.Aim.TheVariants.{Meet, LeaveUnmet, Drop}
+use Rattle.breaking_walks.specs.declared.search.Aim.TheVariants.{Meet, LeaveElsewhere, LeaveUnmet, Drop}
 use Rattle.breaking_walks.specs.declared.trail.Node.{Node}
 
--- how many switches of the chain are met at this switch, where so many are met before it
-abbrev pub met_after : List SwitchId → ℕ → SwitchId → ℕ
-met_after chain met switch = if option_map_or (λ s. s.0 == switch.0) (slice_get chain met) false then met + 1 else met
+-- how many items of the chain are met at this switch, where so many are met before it
+abbrev pub met_after : List (List SwitchId) → ℕ → SwitchId → ℕ
+met_after chain met switch = if option_map_or (λ item. list_any (λ s. s.0 == switch.0) item) (slice_get chain met) false then met + 1 else met
 
 -- the node at the entry
-abbrev pub first_node : List SwitchId → Place → Node
+abbrev pub first_node : List (List SwitchId) → Place → Node
 first_node chain entry = record { place = entry; met = met_after chain 0 entry.switch }
 
 -- the node after a step to the place
-abbrev pub node_after : List SwitchId → Node → Place → Node
+abbrev pub node_after : List (List SwitchId) → Node → Place → Node
 node_after chain node place = record { place = place; met = met_after chain node.met place.switch }
 
 -- the nodes that were found
@@ -53,14 +56,20 @@ IsWayTo trail to from (place ∷ rest) = (next : ℕ) × IsLedTo trail from next
 abbrev pub HasLeave : List Outcome → Type 0
 HasLeave found = (port : Port) × (vlan : Vlan) × IsIn (Leave port vlan) found
 
--- a place is looked for, with so many switches of the chain met there, and with these outcomes
-abbrev pub IsAimedAt : Aim → List SwitchId → ℕ → List Outcome → Type 0
-IsAimedAt Meet chain met found = met ≡ length chain
-IsAimedAt LeaveUnmet chain met found = (met < length chain) × HasLeave found
-IsAimedAt Drop chain met found = IsIn Discard found
+-- a packet may leave at the switch by one of these outcomes, by a port that is none of the exits
+abbrev pub HasElsewhere : List (List Stop) → SwitchId → List Outcome → Type 0
+HasElsewhere exits switch found =
+    (port : Port) × (vlan : Vlan) × IsIn (Leave port vlan) found × (lets exits (record { switch = switch; port = port }) ≡ false)
+
+-- a node is looked for, with these outcomes at its place
+abbrev pub IsAimedAt : Aim → List (List Stop) → List (List SwitchId) → Node → List Outcome → Type 0
+IsAimedAt Meet exits chain node found = node.met ≡ length chain
+IsAimedAt LeaveElsewhere exits chain node found = HasElsewhere exits node.place.switch found
+IsAimedAt LeaveUnmet exits chain node found = (node.met < length chain) × HasLeave found
+IsAimedAt Drop exits chain node found = IsIn Discard found
 
 -- the nodes after a node by its outcomes stand there, and are put behind the others if they didn't
-pub record ArePut (old : List (Node × ℕ)) (chain : List SwitchId) (node : Node) (number : ℕ) (found : List Outcome) (new : List (Node × ℕ)) : Type 0 where
+pub record ArePut (old : List (Node × ℕ)) (chain : List (List SwitchId)) (node : Node) (number : ℕ) (found : List Outcome) (new : List (Node × ℕ)) : Type 0 where
   pub more : List (Node × ℕ)
   pub behind : new ≡ old ++ more
   pub led : (t : Node × ℕ) → IsIn t more → (place : Place) × IsIn (Go place) found × (t ≡ (node_after chain node place, number))

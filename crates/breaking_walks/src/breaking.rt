@@ -1,26 +1,28 @@
-//! Mixed walks that break the duties of a class: by a discard, by a leave with a chain unmet, or by a switch that stands twice.
-ghost use Rattle.std.specs.Prelude.{◌≡◌, ◌<◌, IfOk, IfSome, IfNone};
+//! Mixed walks that break the duties of a class: by a discard, by a leave elsewhere than at an exit or with a chain unmet, or by a
+//! switch that stands twice.
+ghost use Rattle.std.specs.Prelude.{◌≡◌, ◌<◌, ◌∷◌, [], false, IfOk, IfSome, IfNone};
 ghost use Rattle.net_base.specs.Members.{IsIn};
+ghost use Rattle.net_base.specs.Switches.{most_switches};
 ghost use Rattle.net_base.specs.Walks.{end_of};
 ghost use Rattle.net_base.specs.declared.ids.Port.{Port as PortOf};
 ghost use Rattle.net_base.specs.declared.ids.Vlan.{Vlan as VlanOf};
 ghost use Rattle.topology.specs.Networks.{switch_count};
 ghost use Rattle.dest_classes.specs.Classes.{class_count};
 ghost use Rattle.dest_classes.specs.Numbered.{IsNumbered};
-ghost use Rattle.demands.specs.Duties.{PacketDuties, duties_of};
+ghost use Rattle.demands.specs.Duties.{PacketDuties, duties_of, lets};
 ghost use Rattle.update_model.specs.Mixtures.{IsPossible};
 ghost use Rattle.breaking_walks.specs.Rounds.{round_rollout, SwitchesArePrepared};
-ghost use Rattle.breaking_walks.specs.Searches.{MayLeaveAt, IsNoneFound};
+ghost use Rattle.breaking_walks.specs.Searches.{MayLeaveAt, MayLeaveElsewhereAt, IsNoneFound};
 ghost use Rattle.breaking_walks.specs.Breaking.{HasBreakingWalk};
-ghost use Rattle.breaking_walks.specs.Broken.{IsBroken, IsBrokenIn, IsNoneDropped, IsNoneUnmet, IsNoneTwice};
+ghost use Rattle.breaking_walks.specs.Broken.{IsBroken, IsBrokenIn, IsNoneDropped, IsNoneElsewhere, IsNoneUnmet, IsNoneTwice};
 
 use crate::BreakingWalk;
 use crate::falling::are_walks_falling;
 use crate::round::{PreparedRound, possible};
-use crate::search::{Aim, find};
+use crate::search::{Aim, find, first_elsewhere};
 use demands::Duties;
-use dest_classes::{Class, NumberedClass};
-use net_base::{Memory, Place, Port, SwitchId, Vlan};
+use dest_classes::NumberedClass;
+use net_base::{ListOf, Memory, Place, Port, SwitchGroup, SwitchId, Vlan};
 use path_walk::Outcome;
 use std::alloc::Global;
 
@@ -92,7 +94,7 @@ fn find_drop(
     if !duties.must_arrive(numbered.number) {
         return Ok(None);
     }
-    match find(alloc, round, numbered.class, &[], Aim::Drop)? {
+    match find(alloc, round, duties, numbered, &[], Aim::Drop)? {
         Some(rest) => Ok(Some(BreakingWalk {
             rest,
             end: Some(Outcome::Discard),
@@ -101,30 +103,101 @@ fn find_drop(
     }
 }
 
+/// A port and a VLAN with which a packet may leave elsewhere than at an exit of its class, at a place where one may.
+fn leave_elsewhere_at(
+    alloc: Global,
+    round: PreparedRound<'_>,
+    duties: &Duties,
+    numbered: NumberedClass,
+    place: Place,
+) -> Result<(Port, Vlan), Memory>
+    requires prepared { SwitchesArePrepared round }
+    requires number { numbered.number < class_count duties.now.classes }
+    requires class { IsNumbered duties.now.classes numbered }
+    requires within { place.switch.0 < switch_count round.net.now }
+    requires leaves { MayLeaveElsewhereAt (round_rollout round) round.number numbered.class.first place
+        (duties_of duties.now.demands numbered.class.entry numbered.class.first).exits }
+    ensures possible { IfOk result
+        (λ by. IsPossible (round_rollout round.entry) round.entry.number numbered.class.first place
+        (Outcome.Leave by.0 by.1)) }
+    ensures elsewhere { IfOk result
+        (λ by. lets (duties_of duties.now.demands numbered.class.entry numbered.class.first).exits
+        (record { switch = place.switch; port = by.0 }) ≡ false) }
+{
+    let outcomes = possible(alloc, round, place, numbered.class.first)?;
+    match first_elsewhere(duties, numbered, place.switch, outcomes.list()) {
+        Some(by) => Ok(by),
+        None => unreachable!(),
+    }
+}
+
+/// A mixed walk to a place where a packet of the class may leave elsewhere than at an exit. It isn't searched for where each host
+/// port is one.
+fn find_elsewhere(
+    alloc: Global,
+    round: PreparedRound<'_>,
+    duties: &Duties,
+    numbered: NumberedClass,
+) -> Result<Option<BreakingWalk>, Memory>
+    requires prepared { SwitchesArePrepared round }
+    requires number { numbered.number < class_count duties.now.classes }
+    requires class { IsNumbered duties.now.classes numbered }
+    requires entry { numbered.class.entry.switch.0 < switch_count round.net.now }
+    ensures some { IfOk result
+        (λ found. IfSome found
+        (IsBrokenIn round.entry duties.now.demands numbered.class)) }
+    ensures none { IfOk result
+        (λ found. IfNone found
+        (IsNoneElsewhere (round_rollout round.entry) round.entry.number
+        numbered.class.first numbered.class.entry
+        (duties_of duties.now.demands numbered.class.entry numbered.class.first))) }
+{
+    if !duties.has_exits(numbered.number) {
+        return Ok(None);
+    }
+    match find(alloc, round, duties, numbered, &[], Aim::LeaveElsewhere)? {
+        Some(rest) => {
+            round.net.keeps_rules();
+            let place = last_place(numbered.class.entry, rest.list());
+            let (port, vlan) = leave_elsewhere_at(alloc, round, duties, numbered, place)?;
+            Ok(Some(BreakingWalk {
+                rest,
+                end: Some(Outcome::Leave(port, vlan)),
+            }))
+        }
+        None => Ok(None),
+    }
+}
+
 /// A mixed walk to a place where a packet of the class may leave without having met the chain.
 fn find_unmet(
     alloc: Global,
     round: PreparedRound<'_>,
-    class: Class,
-    chain: &[SwitchId],
+    duties: &Duties,
+    numbered: NumberedClass,
+    chain: &[SwitchGroup],
 ) -> Result<Option<BreakingWalk>, Memory>
     requires prepared { SwitchesArePrepared round }
-    requires entry { class.entry.switch.0 < switch_count round.net.now }
+    requires number { numbered.number < class_count duties.now.classes }
+    requires class { IsNumbered duties.now.classes numbered }
+    requires entry { numbered.class.entry.switch.0 < switch_count round.net.now }
     ensures some { IfOk result
         (λ found. IfSome found
         (λ w. (d : PacketDuties) → IsIn chain.now d.chains
-        → IsBroken (round_rollout round.entry) round.entry.number class.first class.entry d
-        w.rest w.end)) }
+        → IsBroken (round_rollout round.entry) round.entry.number
+        numbered.class.first numbered.class.entry d w.rest w.end)) }
     ensures none { IfOk result
         (λ found. IfNone found
-        (IsNoneFound (round_rollout round.entry) round.entry.number class.first class.entry
+        (IsNoneFound (round_rollout round.entry) round.entry.number
+        numbered.class.first numbered.class.entry
+        (duties_of duties.now.demands numbered.class.entry numbered.class.first).exits
         chain.now Aim.LeaveUnmet)) }
 {
-    match find(alloc, round, class, chain, Aim::LeaveUnmet)? {
+    match find(alloc, round, duties, numbered, chain, Aim::LeaveUnmet)? {
         Some(rest) => {
             round.net.keeps_rules();
-            let place = last_place(class.entry, rest.list());
-            let (port, vlan) = leave_at(alloc, round, place, class.first)?;
+            let place = last_place(numbered.class.entry, rest.list());
+            let (port, vlan) = leave_at(alloc, round, place, numbered.class.first)?;
             Ok(Some(BreakingWalk {
                 rest,
                 end: Some(Outcome::Leave(port, vlan)),
@@ -158,7 +231,8 @@ fn find_miss(
         let found = find_unmet(
             alloc,
             round,
-            numbered.class,
+            duties,
+            numbered,
             duties.chain(numbered.number, i),
         )?;
         if let Some(walk) = found {
@@ -168,31 +242,46 @@ fn find_miss(
     Ok(None)
 }
 
+/// The chain of a switch that is to be met twice.
+fn twice_at(alloc: Global, switch: SwitchId) -> Result<ListOf<SwitchGroup>, Memory>
+    requires { switch.0 < most_switches }
+    ensures { IfOk result (λ chain. chain ≡ (switch ∷ []) ∷ (switch ∷ []) ∷ []) }
+{
+    let mut chain = ListOf::make(alloc)?;
+    chain.add(SwitchGroup::of_switch(alloc, switch)?)?;
+    chain.add(SwitchGroup::of_switch(alloc, switch)?)?;
+    Ok(chain)
+}
+
 /// A mixed walk of the class on which a switch stands twice. It isn't searched for where numbers fall along each step.
 fn find_repeat(
     alloc: Global,
     round: PreparedRound<'_>,
-    class: Class,
+    duties: &Duties,
+    numbered: NumberedClass,
 ) -> Result<Option<BreakingWalk>, Memory>
     requires prepared { SwitchesArePrepared round }
-    requires entry { class.entry.switch.0 < switch_count round.net.now }
+    requires number { numbered.number < class_count duties.now.classes }
+    requires class { IsNumbered duties.now.classes numbered }
+    requires entry { numbered.class.entry.switch.0 < switch_count round.net.now }
     ensures some { IfOk result
         (λ found. IfSome found
         (λ w. (d : PacketDuties)
-        → IsBroken (round_rollout round.entry) round.entry.number class.first class.entry d
-        w.rest w.end)) }
+        → IsBroken (round_rollout round.entry) round.entry.number
+        numbered.class.first numbered.class.entry d w.rest w.end)) }
     ensures none { IfOk result
         (λ found. IfNone found
-        (IsNoneTwice (round_rollout round.entry) round.entry.number class.first class.entry
-        (switch_count round.entry.net.now))) }
+        (IsNoneTwice (round_rollout round.entry) round.entry.number
+        numbered.class.first numbered.class.entry (switch_count round.entry.net.now))) }
 {
-    let are_falling = are_walks_falling(alloc, round, class)?;
+    let are_falling = are_walks_falling(alloc, round, numbered.class)?;
     if are_falling {
         return Ok(None);
     }
+    round.net.keeps_rules();
     for i in 0..round.net.switches() {
-        let switch = SwitchId(i);
-        let found = find(alloc, round, class, &[switch, switch], Aim::Meet)?;
+        let twice = twice_at(alloc, SwitchId(i))?;
+        let found = find(alloc, round, duties, numbered, twice.list(), Aim::Meet)?;
         if let Some(rest) = found {
             return Ok(Some(BreakingWalk { rest, end: None }));
         }
@@ -225,10 +314,14 @@ pub(crate) fn find_breaking(
     if let Some(walk) = dropped {
         return Ok(Some(walk));
     }
+    let elsewhere = find_elsewhere(alloc, round, duties, numbered)?;
+    if let Some(walk) = elsewhere {
+        return Ok(Some(walk));
+    }
     let missed = find_miss(alloc, round, duties, numbered)?;
     if let Some(walk) = missed {
         return Ok(Some(walk));
     }
     round.net.keeps_rules();
-    find_repeat(alloc, round, numbered.class)
+    find_repeat(alloc, round, duties, numbered)
 }

@@ -1,34 +1,39 @@
 //! A search among the mixed walks of a round.
-ghost use Rattle.std.specs.Prelude.{◌≡◌, ◌↔◌, ◌<◌, length, IsTrue, IfOk, OnOk, IfSome, IfNone};
+ghost use Rattle.std.specs.Prelude.{◌≡◌, ◌↔◌, ◌<◌, false, length, IsTrue, IfOk, OnOk, IfSome, IfNone};
 ghost use Rattle.net_base.specs.Members.{IsIn};
 ghost use Rattle.topology.specs.Networks.{switch_count};
+ghost use Rattle.dest_classes.specs.Classes.{class_count};
+ghost use Rattle.dest_classes.specs.Numbered.{IsNumbered};
+ghost use Rattle.demands.specs.Duties.{duties_of, lets};
 ghost use Rattle.path_walk.specs.declared.Outcome.TheVariants.{Discard as Discarded};
 ghost use Rattle.breaking_walks.specs.Rounds.{round_rollout, SwitchesArePrepared};
 ghost use Rattle.breaking_walks.specs.Searches.{IsFound, IsNoneFound};
-ghost use Rattle.breaking_walks.specs.Trails.{met_after, HasLeave, IsAimedAt, ArePut};
+ghost use Rattle.breaking_walks.specs.Trails.{met_after, HasLeave, HasElsewhere, IsAimedAt, ArePut};
 
 use crate::round::{PreparedRound, possible};
 use crate::trail::{Node, Trail};
-use dest_classes::Class;
-use net_base::{ListOf, Memory, Place, SwitchId};
+use demands::Duties;
+use dest_classes::NumberedClass;
+use net_base::{ListOf, Memory, Place, Port, Stop, SwitchGroup, SwitchId, Vlan};
 use path_walk::Outcome;
 use std::alloc::Global;
 
-/// What a mixed walk is to do: meet a chain; come where a packet may leave with the chain unmet; or come where one may be
-/// discarded.
+/// What a mixed walk is to do: meet a chain; come where a packet may leave elsewhere than at an exit of its class, or with the
+/// chain unmet; or come where one may be discarded.
 #[derive(Clone, Copy, Debug, PartialEq, Eq)]
 pub(crate) enum Aim {
     Meet,
+    LeaveElsewhere,
     LeaveUnmet,
     Drop,
 }
 
-/// How many switches of the chain are met at this switch, where so many are met before it.
-fn met_after(chain: &[SwitchId], met: usize, switch: SwitchId) -> usize
+/// How many items of the chain are met at this switch, where so many are met before it.
+fn met_after(chain: &[SwitchGroup], met: usize, switch: SwitchId) -> usize
     ensures { result ≡ met_after chain.now met switch }
 {
     match chain.get(met) {
-        Some(next) if *next == switch => met + 1,
+        Some(next) if next.has(switch) => met + 1,
         _ => met,
     }
 }
@@ -57,13 +62,56 @@ fn has_discard(found: &[Outcome]) -> bool
     false
 }
 
-/// Whether a place is looked for, with so many switches of the chain met there, and with these outcomes.
-fn is_aimed_at(aim: Aim, chain: &[SwitchId], met: usize, found: &[Outcome]) -> bool
-    ensures { IsTrue result ↔ IsAimedAt aim chain.now met found.now }
+/// The port and the VLAN of the first outcome by which a packet leaves at the switch elsewhere than at an exit of the class.
+pub(crate) fn first_elsewhere(
+    duties: &Duties,
+    numbered: NumberedClass,
+    switch: SwitchId,
+    found: &[Outcome],
+) -> Option<(Port, Vlan)>
+    requires number { numbered.number < class_count duties.now.classes }
+    requires class { IsNumbered duties.now.classes numbered }
+    ensures some { IfSome result (λ by. IsIn (Outcome.Leave by.0 by.1) found.now
+        × (lets (duties_of duties.now.demands numbered.class.entry numbered.class.first).exits
+        (record { switch = switch; port = by.0 }) ≡ false)) }
+    ensures none { IfNone result
+        (¬ HasElsewhere (duties_of duties.now.demands numbered.class.entry
+        numbered.class.first).exits switch found.now) }
+{
+    for outcome in found {
+        if let Outcome::Leave(port, vlan) = *outcome {
+            if !duties.lets(numbered.number, Stop { switch, port }) {
+                return Some((port, vlan));
+            }
+        }
+    }
+    None
+}
+
+/// Whether a node is looked for, with these outcomes at its place.
+fn is_aimed_at(
+    aim: Aim,
+    duties: &Duties,
+    numbered: NumberedClass,
+    chain: &[SwitchGroup],
+    node: Node,
+    found: &[Outcome],
+) -> bool
+    requires number { numbered.number < class_count duties.now.classes }
+    requires class { IsNumbered duties.now.classes numbered }
+    ensures { IsTrue result ↔ IsAimedAt aim
+        (duties_of duties.now.demands numbered.class.entry numbered.class.first).exits chain.now
+        node found.now }
 {
     match aim {
-        Aim::Meet => met == chain.len(),
-        Aim::LeaveUnmet => met < chain.len() && has_leave(found),
+        Aim::Meet => node.met == chain.len(),
+        Aim::LeaveElsewhere => first_elsewhere(
+            duties,
+            numbered,
+            node.place.switch,
+            found,
+        ).is_some(),
+        Aim::LeaveUnmet => node.met < chain.len() && has_leave(found),
         Aim::Drop => has_discard(found),
     }
 }
@@ -71,7 +119,7 @@ fn is_aimed_at(aim: Aim, chain: &[SwitchId], met: usize, found: &[Outcome]) -> b
 /// Puts the nodes after the node with this number, by its outcomes.
 pub(crate) fn put_next(
     trail: &mut Trail,
-    chain: &[SwitchId],
+    chain: &[SwitchGroup],
     node: Node,
     number: usize,
     found: &[Outcome],
@@ -89,26 +137,34 @@ pub(crate) fn put_next(
 }
 
 /// The places after the entry of a mixed walk of the round that does so, if there is one. Each place is looked at once for
-/// each number of switches of the chain that may be met there.
+/// each number of items of the chain that may be met there.
 pub(crate) fn find(
     alloc: Global,
     round: PreparedRound<'_>,
-    class: Class,
-    chain: &[SwitchId],
+    duties: &Duties,
+    numbered: NumberedClass,
+    chain: &[SwitchGroup],
     aim: Aim,
 ) -> Result<Option<ListOf<Place>>, Memory>
     requires prepared { SwitchesArePrepared round }
-    requires entry { class.entry.switch.0 < switch_count round.net.now }
+    requires number { numbered.number < class_count duties.now.classes }
+    requires class { IsNumbered duties.now.classes numbered }
+    requires entry { numbered.class.entry.switch.0 < switch_count round.net.now }
     ensures some { IfOk result
         (λ found. IfSome found
-        (λ rest. IsFound (round_rollout round.entry) round.entry.number class.first class.entry
+        (λ rest. IsFound (round_rollout round.entry) round.entry.number
+        numbered.class.first numbered.class.entry
+        (duties_of duties.now.demands numbered.class.entry numbered.class.first).exits
         chain.now aim rest)) }
     ensures none { IfOk result
         (λ found. IfNone found
-        (IsNoneFound (round_rollout round.entry) round.entry.number class.first class.entry
+        (IsNoneFound (round_rollout round.entry) round.entry.number
+        numbered.class.first numbered.class.entry
+        (duties_of duties.now.demands numbered.class.entry numbered.class.first).exits
         chain.now aim)) }
 {
     round.net.keeps_rules();
+    let class = numbered.class;
     let met = met_after(chain, 0, class.entry.switch);
     let place = class.entry;
     let mut trail = Trail::start(alloc, Node { place, met })?;
@@ -117,7 +173,7 @@ pub(crate) fn find(
         let (node, _) = trail.at(next);
         let outcomes = possible(alloc, round, node.place, class.first)?;
         let found = outcomes.list();
-        if is_aimed_at(aim, chain, node.met, found) {
+        if is_aimed_at(aim, duties, numbered, chain, node, found) {
             let rest = trail.way_to(alloc, next)?;
             return Ok(Some(rest));
         }

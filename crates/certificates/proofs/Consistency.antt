@@ -28,8 +28,8 @@ use Rattle.path_walk.specs.declared.Outcome.{Outcome}
 use Rattle.path_walk.specs.declared.Outcome.TheVariants.{Discard, Leave, Go}
 use Rattle.path_walk.proofs.PathLaws.{EndsAt, walk_begins, walk_same, HasVlan, outcome_keeps, walk_keeps}
 use Rattle.dest_classes.proofs.ClassLaws.{class_of}
-use Rattle.demands.specs.Duties.{DemandView, duties_of}
-use Rattle.demands.specs.Good.{IsGood, MeetsChains, IsDropped, switches_of, HasGoodPath}
+use Rattle.demands.specs.Duties.{DemandView, duties_of, lets}
+use Rattle.demands.specs.Good.{IsGood, MeetsChains, LeavesAtExit, IsDropped, switches_of, HasGoodPath}
 use Rattle.demands.proofs.DutyLaws.{duties_same, distinct_prefix}
 use Rattle.demands.proofs.MeetsLaws.{good_meets}
 use Rattle.update_model.specs.Changes.{changes_at, round_after, rule_of, rules_after}
@@ -51,7 +51,7 @@ use Rattle.certificates.specs.declared.Evidence.{Evidence}
 use Rattle.certificates.specs.declared.Evidence.TheVariants.{Ordered, TwoPhase}
 use Rattle.certificates.specs.declared.TwoPhaseEvidence.{TwoPhaseEvidence}
 use Rattle.certificates.proofs.Falling.{distinct_walk}
-use Rattle.certificates.proofs.Guarded.{guarded_chains_met}
+use Rattle.certificates.proofs.Guarded.{guarded_chains_met, safe_exits}
 use Rattle.certificates.proofs.SameClass.{TreatsAlike, tables_alike, same_outcomes}
 use Rattle.certificates.proofs.Labelled.{labelled_walk}
 
@@ -144,11 +144,12 @@ module _ (t : Task) (p : Packet) (walked : WalkedOneRound (rollout t) p) where
     ]
 
     good_so_far : (ended : Ended) → p.ended ≡ ended → MeetsChains (duties_of t.update.demands p.entry p.dst).chains (switches_of p.visits) ended → (¬ IsDropped ended)
-        → IsGood (duties_of t.update.demands p.entry p.dst) (trace_of p)
-    good_so_far ended is met not_dropped = record {
+        → LeavesAtExit (duties_of t.update.demands p.entry p.dst).exits ended → IsGood (duties_of t.update.demands p.entry p.dst) (trace_of p)
+    good_so_far ended is met not_dropped at_exit = record {
       distinct = distinct_prefix p.visits following.path.stops begun following.allowed.1.distinct;
       chains = subst (MeetsChains (duties_of t.update.demands p.entry p.dst).chains (switches_of p.visits)) (sym is) met;
       arrives = λ _ dropped. not_dropped (subst IsDropped is dropped);
+      exits = subst (LeavesAtExit (duties_of t.update.demands p.entry p.dst).exits) (sym is) at_exit;
     }
 
     finished : (found : Outcome) → IsPossible (rollout t) p.born p.dst p.at found → IsEnd (ended_by p.at found) → p.ended ≡ ended_by p.at found
@@ -173,9 +174,9 @@ module _ (t : Task) (p : Packet) (walked : WalkedOneRound (rollout t) p) where
 
     shown : (ended : Ended) → p.ended ≡ ended → EndWasPossible (rollout t) p ended → IsShown
     shown UnderWay is was =
-        (good_so_far UnderWay is tt (λ h. h), (begun_version (λ h. subst IsEnd is h), λ s port vlan left. absurd (let e : UnderWay ≡ Left s port vlan = sym is ∙ left in cc)))
+        (good_so_far UnderWay is tt (λ h. h) tt, (begun_version (λ h. subst IsEnd is h), λ s port vlan left. absurd (let e : UnderWay ≡ Left s port vlan = sym is ∙ left in cc)))
     shown Lost is was =
-        (good_so_far Lost is tt (λ h. h), (begun_version (λ h. subst IsEnd is h), λ s port vlan left. absurd (let e : Lost ≡ Left s port vlan = sym is ∙ left in cc)))
+        (good_so_far Lost is tt (λ h. h) tt, (begun_version (λ h. subst IsEnd is h), λ s port vlan left. absurd (let e : Lost ≡ Left s port vlan = sym is ∙ left in cc)))
     shown (Left switch port vlan) is was =
         let all = finished (Leave port vlan) was.1 tt (is ∙ ap (λ s. Left s port vlan) was.0) in
         (all.0, (whole_version all.1.0, λ s q v left. (let e : Left switch port vlan ≡ Left s q v = sym is ∙ left in let f : v ≡ vlan = cc in f) ∙ all.1.1))
@@ -239,11 +240,21 @@ module _ (t : Task) (old_user : IsUserConfig t.update.net t.update.old) (new_use
         drops = end_back Discard was.1;
       })
 
+      safe_at_exit : (ended : Ended) → EndWasPossible (rollout t) p ended → LeavesAtExit (duties_of t.update.demands p.entry first).exits ended
+      safe_at_exit UnderWay was = tt
+      safe_at_exit Lost was = tt
+      safe_at_exit (Dropped switch) was = tt
+      safe_at_exit (Left switch port vlan) was =
+          subst (λ (s : SwitchId). let stop : Stop = record { switch = s; port = port } in IsTrue (lets (duties_of t.update.demands p.entry first).exits stop))
+          (ap (λ (x : Place). x.switch) walked.at_is ∙ sym was.0)
+          (safe_exits (rollout t) p.born first p.entry (duties_of t.update.demands p.entry first) numbers sets safe walked.rest port vlan walk_back (end_back (Leave port vlan) was.1))
+
       safe_good : IsGood (duties_of t.update.demands p.entry p.dst) (trace_of p)
       safe_good = subst (λ d. IsGood d (trace_of p)) (duties_alike first p.dst same p.entry) (record {
         distinct = subst IsDistinct (sym switches) (distinct_walk (rollout t) p.born first p.entry numbers safe.falls walked.rest walk_back);
         chains = subst (λ s. MeetsChains (duties_of t.update.demands p.entry first).chains s p.ended) (sym switches) (safe_chains p.ended walked.ended);
         arrives = safe_arrives p.ended walked.ended;
+        exits = safe_at_exit p.ended walked.ended;
       })
 
     old_allowed : (path : Trace) → IsPath t.update.net t.update.old p.entry first path → IsGood (duties_of t.update.demands p.entry first) path → IsAllowed t p walked path

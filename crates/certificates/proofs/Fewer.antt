@@ -9,6 +9,7 @@ use Rattle.net_base.proofs.MemberLaws.{each_weaker}
 use Rattle.net_base.proofs.WalkLaws.{walk_weaker}
 use Rattle.net_base.specs.declared.ids.SwitchId.{SwitchId}
 use Rattle.net_base.specs.declared.ids.Place.{Place}
+use Rattle.net_base.specs.declared.ids.Stop.{Stop}
 use Rattle.topology.specs.Networks.{Network}
 use Rattle.flow_rules.specs.declared.rules.Rule.{Rule}
 use Rattle.path_walk.specs.declared.Outcome.{Outcome}
@@ -20,7 +21,7 @@ use Rattle.update_model.specs.Changes.{Applies, entry_named, changes_at, IsGoodR
 use Rattle.update_model.specs.Mixtures.{MayHold, IsPossible, MayGo, IsOnMixedWalk, is_insert, need_of}
 use Rattle.update_model.specs.declared.Change.{Change}
 use Rattle.update_model.proofs.MadeLaws.{at_some, distinct_some, each_some}
-use Rattle.certificates.specs.Steps.{IsMixedStep, MayLeave, MayDrop}
+use Rattle.certificates.specs.Steps.{IsMixedStep, MayLeave, MayLeaveElsewhere, MayDrop}
 use Rattle.certificates.specs.Ordered.{Position, positions, IsSafe}
 use Rattle.certificates.specs.Rounds.{one_round_of, CanBeRound, FewerChangesAreSafe}
 
@@ -84,11 +85,22 @@ module _ (net : Network) (tables : List (List Rule)) (fewer changes : List Chang
       at_is = leave.at_is;
     }
 
+    elsewhere_more : (exits : List (List Stop)) (s : SwitchId) → MayLeaveElsewhere (one_round_of net tables fewer) 0 dst entry exits s → MayLeaveElsewhere (one_round_of net tables changes) 0 dst entry exits s
+    elsewhere_more exits s leave = record {
+      place = leave.place;
+      port = leave.port;
+      vlan = leave.vlan;
+      on_walk = walked_more leave.place leave.on_walk;
+      leaves = possible_more leave.place _ leave.leaves;
+      at_is = leave.at_is;
+      elsewhere = leave.elsewhere;
+    }
+
     drop_more : MayDrop (one_round_of net tables fewer) 0 dst entry → MayDrop (one_round_of net tables changes) 0 dst entry
     drop_more drop = record { place = drop.place; on_walk = walked_more drop.place drop.on_walk; drops = possible_more drop.place _ drop.drops }
 
-    guard_fewer : (p : Position) → IsGuard entry.switch (IsMixedStep (one_round_of net tables changes) 0 dst entry) (MayLeave (one_round_of net tables changes) 0 dst entry) p.waypoint p.earlier p.set
-        → IsGuard entry.switch (IsMixedStep (one_round_of net tables fewer) 0 dst entry) (MayLeave (one_round_of net tables fewer) 0 dst entry) p.waypoint p.earlier p.set
+    guard_fewer : (p : Position) → IsGuard entry.switch (IsMixedStep (one_round_of net tables changes) 0 dst entry) (MayLeave (one_round_of net tables changes) 0 dst entry) p.item p.earlier p.set
+        → IsGuard entry.switch (IsMixedStep (one_round_of net tables fewer) 0 dst entry) (MayLeave (one_round_of net tables fewer) 0 dst entry) p.item p.earlier p.set
     guard_fewer p guard = record {
       before = record { begins = guard.before.begins; stays = λ s t edge. guard.before.stays s t (step_more s t edge) };
       keeps = λ s leaves. guard.keeps s (leave_more s leaves);
@@ -98,11 +110,12 @@ module _ (net : Network) (tables : List (List Rule)) (fewer changes : List Chang
   safe_fewer dst entry duties numbers sets safe = record {
     falls = λ s t step. safe.falls s t (step_more dst entry s t step);
     arrives = λ must drops. safe.arrives must (drop_more dst entry drops);
+    exits = λ s leaves. safe.exits s (elsewhere_more dst entry duties.exits s leaves);
     guarded = record {
       count = safe.guarded.count;
       guards = each_weaker
-          (λ p. IsGuard entry.switch (IsMixedStep (one_round_of net tables changes) 0 dst entry) (MayLeave (one_round_of net tables changes) 0 dst entry) p.waypoint p.earlier p.set)
-          (λ p. IsGuard entry.switch (IsMixedStep (one_round_of net tables fewer) 0 dst entry) (MayLeave (one_round_of net tables fewer) 0 dst entry) p.waypoint p.earlier p.set)
+          (λ p. IsGuard entry.switch (IsMixedStep (one_round_of net tables changes) 0 dst entry) (MayLeave (one_round_of net tables changes) 0 dst entry) p.item p.earlier p.set)
+          (λ p. IsGuard entry.switch (IsMixedStep (one_round_of net tables fewer) 0 dst entry) (MayLeave (one_round_of net tables fewer) 0 dst entry) p.item p.earlier p.set)
           (guard_fewer dst entry) (positions duties.chains sets) safe.guarded.guards;
     };
   }

@@ -1,7 +1,7 @@
 -- The paths of a tree update: the present tables have good ones after certified rounds.
 use Rattle.std.proofs.Common.{◌≡◌, ◌⊎◌, ℕ, zero, suc, ◌<◌, ◌≤◌, Bool, List, [], ◌∷◌, map, length, refl, sym, ◌∙◌, subst, ap, inl, inr, arith}
-use Rattle.std.specs.Prelude.{IsTrue}
-use Rattle.std.specs.List.{AllByRecursion}
+use Rattle.std.specs.Prelude.{IsTrue, None}
+use Rattle.std.specs.List.{AllByRecursion, filter_map, cons_option}
 use Rattle.net_base.specs.Members.{IsIn, IsDistinct, IsSameSet}
 use Rattle.net_base.specs.Walks.{IsWalk, end_of}
 use Rattle.net_base.proofs.WalkLaws.{walk_weaker, reached_start, reached_more}
@@ -13,7 +13,7 @@ use Rattle.flow_rules.specs.declared.rules.Rule.{Rule}
 use Rattle.path_walk.specs.Paths.{outcome_in, ended_by, IsEnd}
 use Rattle.path_walk.specs.declared.Outcome.{Outcome}
 use Rattle.path_walk.specs.declared.Outcome.TheVariants.{Discard, Leave, Go}
-use Rattle.demands.specs.Duties.{DemandView, demand_covers, demands_on, duties_of, ascending_chains, with_chain, first_of_each}
+use Rattle.demands.specs.Duties.{DemandView, demand_covers, demands_on, duties_of, ascending_chains, with_chain, items_of_chain}
 use Rattle.demands.specs.Good.{HasGoodPath, IsDropped, switches_of}
 use Rattle.acyclic_numbering.specs.Heights.{number_of, Falls}
 use Rattle.update_model.specs.Changes.{changes_at, round_after}
@@ -26,13 +26,21 @@ use Rattle.certificates.proofs.Consistency.{switches_are}
 use Rattle.certificates.proofs.TreeWalks.{Steps, FinePath}
 
 -- demands without waypoints give no chains
-chains_of_none : (ds : List DemandView) → AllByRecursion (λ d. d.through ≡ []) ds → ascending_chains (map (λ d. first_of_each d.through) ds) ≡ []
+chains_of_none : (ds : List DemandView) → AllByRecursion (λ d. d.through ≡ []) ds → ascending_chains (map (λ d. items_of_chain d.through) ds) ≡ []
 chains_of_none [] none = refl
 chains_of_none (d ∷ ds) none =
-    ap (λ w. with_chain (first_of_each w) (ascending_chains (map (λ x. first_of_each x.through) ds))) none.0 ∙ chains_of_none ds none.1
+    ap (λ w. with_chain (items_of_chain w) (ascending_chains (map (λ x. items_of_chain x.through) ds))) none.0 ∙ chains_of_none ds none.1
 
 pub no_chains : (demands : List DemandView) → AllByRecursion (λ d. d.through ≡ []) demands → (entry : Place) (dst : ℕ) → (duties_of demands entry dst).chains ≡ []
 no_chains demands none entry dst = chains_of_none (demands_on demands entry dst) (each_filter (λ d. d.through ≡ []) (λ d. demand_covers d entry dst) demands none)
+
+-- and demands that say nothing of exits give no lists of them
+exits_of_none : (ds : List DemandView) → AllByRecursion (λ d. d.exits ≡ None) ds → filter_map (λ d. d.exits) ds ≡ []
+exits_of_none [] none = refl
+exits_of_none (d ∷ ds) none = ap (λ e. cons_option e (filter_map (λ x. x.exits) ds)) none.0 ∙ exits_of_none ds none.1
+
+pub no_exits : (demands : List DemandView) → AllByRecursion (λ d. d.exits ≡ None) demands → (entry : Place) (dst : ℕ) → (duties_of demands entry dst).exits ≡ []
+no_exits demands none entry dst = exits_of_none (demands_on demands entry dst) (each_filter (λ d. d.exits ≡ None) (λ d. demand_covers d entry dst) demands none)
 
 module _ (net : Network) (tables : List (List Rule)) (demands : List DemandView) (entry : Place) (dst : ℕ) (good : HasGoodPath net tables demands entry dst) where
   abbrev out : Place → Outcome

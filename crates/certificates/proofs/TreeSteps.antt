@@ -38,7 +38,7 @@ use Rattle.certificates.specs.Trees.{IsTreeUpdate, IsSafeForAll, IsRemainingRepl
 use Rattle.topology.proofs.LinkLaws.{host_at}
 use Rattle.certificates.proofs.TreeRounds.{blocks, within_at, AllFit, new_fit, same_blocks, same_lookup, rule_differs, possible_single}
 use Rattle.certificates.proofs.TreeWalks.{Steps, FinePath, drop_at_end, fine_same, host_drops, SomeKeepsSafe, safe_on_path, safe_with_tail}
-use Rattle.certificates.proofs.TreePaths.{no_chains, fine_from_good, leaves_or_drops}
+use Rattle.certificates.proofs.TreePaths.{no_chains, no_exits, fine_from_good, leaves_or_drops}
 use Rattle.net_base.proofs.ItemLaws.{in_from_get, get_from_in}
 
 cases_rewrite : (a b : Rewrite) → (a ≡ b) ⊎ (¬ (a ≡ b))
@@ -260,6 +260,9 @@ module _ (t : Task) (tree : IsTreeUpdate t) (old_once : (s : SwitchId) → IsTab
   chainless : (class : Class) → (duties class).chains ≡ []
   chainless class = no_chains t.update.demands tree.no_waypoints class.entry class.first
 
+  exitless : (class : Class) → (duties class).exits ≡ []
+  exitless class = no_exits t.update.demands tree.no_exits class.entry class.first
+
   -- the class stays safe in a round of the change
   abbrev Keeps : Change → Class → Type 0
   Keeps c class = SomeKeepsSafe (update_with c) k class.first class.entry (duties class)
@@ -282,7 +285,7 @@ module _ (t : Task) (tree : IsTreeUpdate t) (old_once : (s : SwitchId) → IsTab
     -- a class all of whose new path is new stays safe
     along_safe : (class : Class) → IsNewAlong class → Keeps c class
     along_safe class along =
-        safe_on_path (update_with c) k class.first class.entry (duties class) (chainless class) (new_out class) along.fine
+        safe_on_path (update_with c) k class.first class.entry (duties class) (chainless class) (exitless class) (new_out class) along.fine
         (λ p found i may. elim (outcomes class.first p found may) [
           | inl e ↦ inl (e ∙ now_same class class.first (λ q j. refl) p ∙ ap (action_outcome net p) (each_at (λ q. now_at class q.switch ≡ new_at class q.switch) (class.entry ∷ along.fine.rest) p along.agree i)
               ∙ sym (new_same class class.first (λ q j. refl) p))
@@ -302,7 +305,7 @@ module _ (t : Task) (tree : IsTreeUpdate t) (old_once : (s : SwitchId) → IsTab
           elim (cases_Bool (in_block next.key.pattern.dst other.first)) [
             | inl inside ↦ (
                 let alike = alike_in h.first.switch next wanted other.first class.first inside has in
-                safe_with_tail u k other.first other.entry (duties other) (chainless other) net is_net (now_at class) (new_at class) h.first h.after h.walk h.ends h.leaves h.distinct h.agree
+                safe_with_tail u k other.first other.entry (duties other) (chainless other) (exitless other) net is_net (now_at class) (new_at class) h.first h.after h.walk h.ends h.leaves h.distinct h.agree
                 (fine_same (now_out other) (λ p. action_outcome net p (now_at class p.switch)) (now_same class other.first alike) (arrive other) other.entry fine)
                 (λ must e. must_not_drop n other is must (new_same class other.first alike other.entry ∙ e))
                 (λ p found may. elim (outcomes (Replace h.first.switch next) h.first.switch next refl wanted other.first p found may) [
@@ -310,7 +313,7 @@ module _ (t : Task) (tree : IsTreeUpdate t) (old_once : (s : SwitchId) → IsTab
                   | inr g ↦ inr (g.0, g.2 ∙ new_same class other.first alike p)
                 ]))
             | inr outside ↦
-                safe_on_path u k other.first other.entry (duties other) (chainless other) (now_out other) fine
+                safe_on_path u k other.first other.entry (duties other) (chainless other) (exitless other) (now_out other) fine
                 (λ p found i may. elim (outcomes (Replace h.first.switch next) h.first.switch next refl wanted other.first p found may) [
                   | inl e ↦ inl e
                   | inr g ↦ absurd (both_ways (in_block next.key.pattern.dst other.first) outside g.1)
@@ -329,7 +332,7 @@ module _ (t : Task) (tree : IsTreeUpdate t) (old_once : (s : SwitchId) → IsTab
             elim (all m other other_is) [
               | inl along ↦ along_safe (Replace class.entry.switch next) class.entry.switch next refl wanted other along
               | inr drops ↦
-                  safe_on_path (update_with (Replace class.entry.switch next)) k other.first other.entry (duties other) (chainless other) (now_out other)
+                  safe_on_path (update_with (Replace class.entry.switch next)) k other.first other.entry (duties other) (chainless other) (exitless other) (now_out other)
                   (present_fine m other other_is)
                   (λ p found i may. elim (outcomes (Replace class.entry.switch next) class.entry.switch next refl wanted other.first p found may) [
                     | inl e ↦ inl e

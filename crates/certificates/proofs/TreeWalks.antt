@@ -1,5 +1,5 @@
 -- Walks by the outcomes of places, and what keeps a class safe: its path alone, or its path and the tail of another one.
-use Rattle.std.proofs.Common.{◌≡◌, ◌⊎◌, ℕ, Bool, List, [], ◌∷◌, map, refl, sym, ◌∙◌, subst, ap, inl, inr}
+use Rattle.std.proofs.Common.{◌≡◌, ◌⊎◌, ℕ, Bool, true, false, List, [], ◌∷◌, map, refl, sym, ◌∙◌, subst, ap, inl, inr}
 use Rattle.std.specs.Prelude.{◌==◌, IsTrue}
 use Rattle.std.specs.List.{AllByRecursion}
 use Rattle.std.proofs.lemmas.Bool.{eqb-true, eq-eqb, cond-true, cond-false, cases_Bool}
@@ -21,10 +21,10 @@ use Rattle.flow_rules.specs.declared.rules.Rewrite.{Rewrite}
 use Rattle.path_walk.specs.Outcomes.{action_outcome, sent_outcome, rewritten_vlan}
 use Rattle.path_walk.specs.declared.Outcome.{Outcome}
 use Rattle.path_walk.specs.declared.Outcome.TheVariants.{Discard, Leave, Go}
-use Rattle.demands.specs.Duties.{PacketDuties}
+use Rattle.demands.specs.Duties.{PacketDuties, lets}
 use Rattle.acyclic_numbering.specs.Heights.{IsLower, Falls}
 use Rattle.update_model.specs.Mixtures.{Rollout, IsPossible, MayGo}
-use Rattle.certificates.specs.Steps.{IsMixedStep, MayDrop, switches_along}
+use Rattle.certificates.specs.Steps.{IsMixedStep, MayLeaveElsewhere, MayDrop, switches_along}
 use Rattle.certificates.specs.Ordered.{IsSafe, AreGuarded}
 use Rattle.acyclic_numbering.proofs.AlongLists.{IsNext, FallsAlong, numbers_along, numbers_both}
 use Rattle.topology.proofs.LinkLaws.{stop_of_parts, link_back}
@@ -232,7 +232,7 @@ module _ (net : Network) (new : SwitchId → Action) (first : Place) (after : Li
       let (j, _) = path_next (λ x. action_outcome net x (new x.switch)) first after tail_walk tail_ends first next (inl refl) e in
       tail_stays next (inr j) (ap (action_outcome net next) (sym (is_new next j f)) ∙ g)
 
-module _ (u : Rollout) (k dst : ℕ) (entry : Place) (duties : PacketDuties) (no_chains : duties.chains ≡ []) where
+module _ (u : Rollout) (k dst : ℕ) (entry : Place) (duties : PacketDuties) (no_chains : duties.chains ≡ []) (no_exits : duties.exits ≡ []) where
   -- what holds of the entry, and after each step along which the numbers fall
   module _ (numbers : List ℕ) (Holds : Place → Type 0) (begins : Holds entry)
       (goes : (p q : Place) → Holds p → MayGo u k dst p q → Holds q × IsLower numbers p.switch q.switch)
@@ -255,9 +255,16 @@ module _ (u : Rollout) (k dst : ℕ) (entry : Place) (duties : PacketDuties) (no
     guarded : AreGuarded u k dst entry duties.chains []
     guarded = subst (λ chains. AreGuarded u k dst entry chains []) (sym no_chains) (record { count = refl; guards = tt })
 
+    -- where no list of exits is asked for, each port is one of them
+    inside : (s : SwitchId) → ¬ MayLeaveElsewhere u k dst entry duties.exits s
+    inside s may =
+        let stop : Stop = record { switch = may.place.switch; port = may.port } in
+        let out : true ≡ false = subst (λ (exits : List (List Stop)). lets exits stop ≡ false) no_exits may.elsewhere in
+        cc
+
     -- by these numbers the class is safe
     pub safe_by : SomeKeepsSafe u k dst entry duties
-    safe_by = (numbers, [], record { falls = falls; arrives = arrives; guarded = guarded })
+    safe_by = (numbers, [], record { falls = falls; arrives = arrives; exits = inside; guarded = guarded })
 
   -- a class is safe whose possible outcomes along a path are the path's, or end it where it needn't arrive
   module _ (out : Place → Outcome) (fine : FinePath out duties.arrive entry)

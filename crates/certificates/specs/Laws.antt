@@ -1,8 +1,8 @@
 -- What the evidence of plans is worth: the laws.
-use Rattle.std.specs.Prelude.{◌≡◌, ◌⊎◌, ◌↔◌, ℕ, ◌<◌, false, List, ◌∷◌, length, map}
+use Rattle.std.specs.Prelude.{◌≡◌, ◌⊎◌, ◌↔◌, ℕ, ◌<◌, false, IsTrue, List, ◌∷◌, length, map}
 use Rattle.std.specs.List.{AllByRecursion}
 use Rattle.net_base.specs.Blocks.{IsSameClass, in_block}
-use Rattle.net_base.specs.Members.{IsDistinct, IsSubsequence, IsPrefix}
+use Rattle.net_base.specs.Members.{IsDistinct, MeetsInOrder, IsPrefix}
 use Rattle.net_base.specs.Walks.{end_of}
 use Rattle.net_base.specs.Places.{stop_of}
 use Rattle.net_base.specs.declared.ids.Place.{Place}
@@ -15,14 +15,14 @@ use Rattle.flow_rules.specs.declared.rules.Rule.{Rule}
 use Rattle.path_walk.specs.Paths.{Trace, IsPath, ended_by, outcome_in, IsEnd}
 use Rattle.path_walk.specs.declared.Outcome.{Outcome}
 use Rattle.path_walk.specs.declared.Outcome.TheVariants.{Discard, Leave, Go}
-use Rattle.demands.specs.Duties.{DemandView}
+use Rattle.demands.specs.Duties.{DemandView, PacketDuties, lets}
 use Rattle.update_model.specs.Changes.{round_after, rule_of}
 use Rattle.update_model.specs.Mixtures.{Rollout, IsMixedWalk, IsPossible, AreGoodRounds, AreClearRounds, tables_before}
 use Rattle.update_model.specs.Runs.{IsRun, state_after_run}
 use Rattle.update_model.specs.declared.Event.{Event}
 use Rattle.acyclic_numbering.specs.Heights.{Falls}
 use Rattle.certificates.specs.Steps.{IsMixedStep, switches_along}
-use Rattle.certificates.specs.Ordered.{AreGuarded}
+use Rattle.certificates.specs.Ordered.{AreGuarded, IsSafe}
 use Rattle.certificates.specs.TwoPhase.{TwoPhaseCertificate}
 use Rattle.certificates.specs.Updates.{Update, Task, task_for, rollout}
 use Rattle.certificates.specs.Certified.{IsCertified, blocks_of, is_two_phase}
@@ -61,9 +61,16 @@ FallingNumbersKeepFromLoops u =
 -- where the chains are guarded, a mixed walk at whose last place a packet may leave has met each chain in order
 abbrev pub GuardedChainsAreMet : Rollout → Type 0
 GuardedChainsAreMet u =
-    (k dst : ℕ) (entry : Place) (chains : List (List SwitchId)) (sets : List (List ℕ)) → AreGuarded u k dst entry chains sets
+    (k dst : ℕ) (entry : Place) (chains : List (List (List SwitchId))) (sets : List (List ℕ)) → AreGuarded u k dst entry chains sets
     → (rest : List Place) (port : Port) (vlan : Vlan) → IsMixedWalk u k dst entry rest → IsPossible u k dst (end_of entry rest) (Leave port vlan)
-    → AllByRecursion (λ chain. IsSubsequence chain (switches_along entry rest)) chains
+    → AllByRecursion (λ chain. MeetsInOrder chain (switches_along entry rest)) chains
+
+-- where the class is kept safe, a packet that may leave at the last place of a mixed walk may leave at an exit alone
+abbrev pub SafeClassesLeaveAtExits : Rollout → Type 0
+SafeClassesLeaveAtExits u =
+    (k dst : ℕ) (entry : Place) (duties : PacketDuties) (numbers : List ℕ) (sets : List (List ℕ)) → IsSafe u k dst entry duties numbers sets
+    → (rest : List Place) (port : Port) (vlan : Vlan) → IsMixedWalk u k dst entry rest → IsPossible u k dst (end_of entry rest) (Leave port vlan)
+    → IsTrue (lets duties.exits (record { switch = (end_of entry rest).switch; port = port }))
 
 -- an outcome that ends a packet: it leaves with the user's VLAN, or is discarded
 abbrev pub EndsFor : Vlan → Outcome → Type 0

@@ -8,38 +8,39 @@ use Rattle.acyclic_numbering.specs.Heights.{Falls}
 use Rattle.waypoint_evidence.specs.Befores.{IsGuard}
 use Rattle.demands.specs.Duties.{PacketDuties}
 use Rattle.update_model.specs.Mixtures.{Rollout}
-use Rattle.certificates.specs.Steps.{IsMixedStep, MayLeave, MayDrop}
+use Rattle.certificates.specs.Steps.{IsMixedStep, MayLeave, MayLeaveElsewhere, MayDrop}
 use Rattle.certificates.specs.declared.Shared.{Shared}
 use Rattle.certificates.specs.declared.OrderedPick.{OrderedPick}
 use Rattle.certificates.specs.declared.OrderedEvidence.{OrderedEvidence}
 
--- a waypoint of a chain with its before set and that of the waypoint before it, if one is before it
+-- an item of a chain with its before set and that of the item before it, if one is before it
 pub record Position : Type 0 where
-  pub waypoint : SwitchId
+  pub item : List SwitchId
   pub earlier : Option (List ℕ)
   pub set : List ℕ
 
 -- the positions of one chain, with before sets in order
-abbrev pub chain_positions : Option (List ℕ) → List SwitchId → List (List ℕ) → List Position
+abbrev pub chain_positions : Option (List ℕ) → List (List SwitchId) → List (List ℕ) → List Position
 chain_positions earlier [] sets = []
-chain_positions earlier (w ∷ ws) [] = []
-chain_positions earlier (w ∷ ws) (set ∷ sets) = record { waypoint = w; earlier = earlier; set = set } ∷ chain_positions (Some set) ws sets
+chain_positions earlier (item ∷ items) [] = []
+chain_positions earlier (item ∷ items) (set ∷ sets) = record { item = item; earlier = earlier; set = set } ∷ chain_positions (Some set) items sets
 
 -- the positions of all chains, chain by chain
-abbrev pub positions : List (List SwitchId) → List (List ℕ) → List Position
+abbrev pub positions : List (List (List SwitchId)) → List (List ℕ) → List Position
 positions [] sets = []
 positions (chain ∷ chains) sets = chain_positions None chain sets ++ positions chains (drop (length chain) sets)
 
 -- there are as many before sets as the chains have positions together, and each guards its position
-pub record AreGuarded (u : Rollout) (k dst : ℕ) (entry : Place) (chains : List (List SwitchId)) (sets : List (List ℕ)) : Type 0 where
+pub record AreGuarded (u : Rollout) (k dst : ℕ) (entry : Place) (chains : List (List (List SwitchId))) (sets : List (List ℕ)) : Type 0 where
   pub count : length sets ≡ length (flat_map (λ chain. chain) chains)
-  pub guards : AllByRecursion (λ p. IsGuard entry.switch (IsMixedStep u k dst entry) (MayLeave u k dst entry) p.waypoint p.earlier p.set) (positions chains sets)
+  pub guards : AllByRecursion (λ p. IsGuard entry.switch (IsMixedStep u k dst entry) (MayLeave u k dst entry) p.item p.earlier p.set) (positions chains sets)
 
 -- a numbering and before sets that keep a class safe in round k: each step of a mixed walk goes to a lower number,
--- nothing that must arrive may be dropped, and each chain is guarded
+-- nothing that must arrive may be dropped, nothing may leave but at an exit, and each chain is guarded
 pub record IsSafe (u : Rollout) (k dst : ℕ) (entry : Place) (duties : PacketDuties) (numbers : List ℕ) (sets : List (List ℕ)) : Type 0 where
   pub falls : Falls (IsMixedStep u k dst entry) numbers
   pub arrives : IsTrue duties.arrive → ¬ MayDrop u k dst entry
+  pub exits : (s : SwitchId) → ¬ MayLeaveElsewhere u k dst entry duties.exits s
   pub guarded : AreGuarded u k dst entry duties.chains sets
 
 -- the pick of a class with the greatest round number that isn't above the round

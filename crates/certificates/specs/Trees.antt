@@ -38,7 +38,7 @@ LeavesOrStays entry (Left switch port vlan) = Unit {0}
 LeavesOrStays entry (Dropped switch) = switch ≡ entry.switch
 LeavesOrStays entry _ = ⊥
 
--- an update of destination trees: by prefix alone, prefixes apart, the same keys before and after, no waypoints, good paths at both ends,
+-- an update of destination trees: by prefix alone, prefixes apart, the same keys before and after, no waypoints and no exits, good paths at both ends,
 -- and in the new tables each class leaves or is dropped where it enters
 pub record IsTreeUpdate (t : Task) : Type 0 where
   pub old_alone : AllByRecursion (AllByRecursion MatchesPrefixAlone) t.update.old
@@ -46,6 +46,7 @@ pub record IsTreeUpdate (t : Task) : Type 0 where
   pub apart : (a b : Block) → IsIn a (table_blocks t.update.old ++ table_blocks t.update.new) → IsIn b (table_blocks t.update.old ++ table_blocks t.update.new) → AreApart a b
   pub same_keys : (s : SwitchId) → IsSameSet (keys_of (rules_at t.update.old s)) (keys_of (rules_at t.update.new s))
   pub no_waypoints : AllByRecursion (λ d. d.through ≡ []) t.update.demands
+  pub no_exits : AllByRecursion (λ d. d.exits ≡ None) t.update.demands
   pub old_good : HasGoodPaths t.update.net t.update.old t.update.demands (classes_for t)
   pub new_good : HasGoodPaths t.update.net t.update.new t.update.demands (classes_for t)
   pub leaves : (n : ℕ) (class : Class) (trace : Trace) → IsClass (classes_for t) n class → IsPath t.update.net t.update.new class.entry class.first trace → LeavesOrStays class.entry trace.ended

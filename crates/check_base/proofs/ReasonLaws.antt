@@ -9,7 +9,7 @@ use Rattle.certificates.specs.declared.TwoPhaseEvidence.{TwoPhaseEvidence}
 use Rattle.certificates.specs.declared.Evidence.{Evidence}
 use Rattle.certificates.specs.declared.Evidence.TheVariants.{Ordered, TwoPhase}
 use Rattle.check_reasons.specs.Reasons.{IsFirstReason, IsOwnReason, IsCommonReason, old_breaks, new_breaks, bad_change, ambiguous, over_capacity, wrong_end}
-use Rattle.check_reasons.specs.Reasons.{IsOrderedReason, rewrites, no_numbering, not_lower, may_drop, no_before, bypass, IsTwoPhaseReason, bad_labels, mixed_path}
+use Rattle.check_reasons.specs.Reasons.{IsOrderedReason, rewrites, no_numbering, not_lower, may_drop, may_leave, no_before, bypass, IsTwoPhaseReason, bad_labels, mixed_path}
 use Rattle.check_reasons.specs.declared.reason.Reason.{Reason}
 use Rattle.check_base.specs.ReasonLines.{class_named}
 
@@ -29,8 +29,9 @@ ordered_fits t e i r (rewrites k s has) = tt
 ordered_fits t e i r (no_numbering k n class judged none) = number_fits (classes_for t) n class judged.is
 ordered_fits t e i r (not_lower k n class numbers sets s judged force bad) = number_fits (classes_for t) n class judged.is
 ordered_fits t e i r (may_drop k n class s judged arrive drops) = number_fits (classes_for t) n class judged.is
+ordered_fits t e i r (may_leave k n class s judged leaves) = number_fits (classes_for t) n class judged.is
 ordered_fits t e i r (no_before k n class numbers sets judged force differ) = number_fits (classes_for t) n class judged.is
-ordered_fits t e i r (bypass k n j class numbers sets p s judged force at bypassed) = number_fits (classes_for t) n class judged.is
+ordered_fits t e i r (bypass k n j class numbers sets p s judged force at bypassed w least) = number_fits (classes_for t) n class judged.is
 
 two_phase_fits : (t : Task) (e : TwoPhaseEvidence) (i : ℕ) (r : Reason) → IsTwoPhaseReason t e i r → NamedFits t r
 two_phase_fits t e i r (bad_labels k n class judged none) = tt

@@ -5,7 +5,7 @@ use Rattle.topology.specs.Networks.{Network}
 use Rattle.dest_classes.specs.declared.Class.{Class}
 use Rattle.check_reasons.specs.Ranks.{number_of}
 use Rattle.check_reasons.specs.declared.reason.Reason.{Reason}
-use Rattle.check_reasons.specs.declared.reason.Reason.TheVariants.{EndBreaks, BadChange, Ambiguous, OverCapacity, Rewrites, NoNumbering, NotLower, MayDrop, NoBefore, Bypass, BadLabels, MixedPath, WrongEnd}
+use Rattle.check_reasons.specs.declared.reason.Reason.TheVariants.{EndBreaks, BadChange, Ambiguous, OverCapacity, Rewrites, NoNumbering, NotLower, MayDrop, MayLeave, NoBefore, Bypass, BadLabels, MixedPath, WrongEnd}
 use Rattle.command_base.specs.Lines.{switch_name, class_text, how_text}
 
 -- the number of the class that a reason names, if it names one
@@ -14,6 +14,7 @@ class_named (EndBreaks new breaks) = Some breaks.class
 class_named (NoNumbering round n) = Some n
 class_named (NotLower round n s) = Some n
 class_named (MayDrop round n s) = Some n
+class_named (MayLeave round n s) = Some n
 class_named (NoBefore round n) = Some n
 class_named (Bypass round n w s) = Some n
 class_named (MixedPath round n s) = Some n
@@ -29,6 +30,7 @@ reason_word (Rewrites round s) = codes "Rewrites"
 reason_word (NoNumbering round n) = codes "NoNumbering"
 reason_word (NotLower round n s) = codes "NotLower"
 reason_word (MayDrop round n s) = codes "MayDrop"
+reason_word (MayLeave round n s) = codes "MayLeave"
 reason_word (NoBefore round n) = codes "NoBefore"
 reason_word (Bypass round n w s) = codes "Bypass"
 reason_word (BadLabels round) = codes "BadLabels"
@@ -45,6 +47,7 @@ round_named (Rewrites round s) = Some round
 round_named (NoNumbering round n) = Some round
 round_named (NotLower round n s) = Some round
 round_named (MayDrop round n s) = Some round
+round_named (MayLeave round n s) = Some round
 round_named (NoBefore round n) = Some round
 round_named (Bypass round n w s) = Some round
 round_named (BadLabels round) = Some round
@@ -74,6 +77,7 @@ reason_tail net (Rewrites round s) = at_switch net s
 reason_tail net (NoNumbering round n) = []
 reason_tail net (NotLower round n s) = at_switch net s
 reason_tail net (MayDrop round n s) = at_switch net s
+reason_tail net (MayLeave round n s) = at_switch net s
 reason_tail net (NoBefore round n) = []
 reason_tail net (Bypass round n w s) = codes " waypoint " ++ switch_name net w ++ codes " switch " ++ switch_name net s
 reason_tail net (BadLabels round) = []

@@ -44,25 +44,25 @@ module _ {A : Type 0} where
 
 -- ---- how many positions
 
-pub count_append : (chains others : List (List SwitchId)) → position_count (chains ++ others) ≡ position_count chains + position_count others
+pub count_append : (chains others : List (List (List SwitchId))) → position_count (chains ++ others) ≡ position_count chains + position_count others
 count_append [] others = omega arith
 count_append (c ∷ chains) others =
     let h = count_append chains others in
-    let a = length-append c (flat_map (λ (x : List SwitchId). x) (chains ++ others)) in
-    let b = length-append c (flat_map (λ (x : List SwitchId). x) chains) in
+    let a = length-append c (flat_map (λ (x : List (List SwitchId)). x) (chains ++ others)) in
+    let b = length-append c (flat_map (λ (x : List (List SwitchId)). x) chains) in
     omega arith
 
-pub count_chain : (chain : List SwitchId) (chains : List (List SwitchId)) → position_count (chain ∷ chains) ≡ length chain + position_count chains
-count_chain chain chains = length-append chain (flat_map (λ (x : List SwitchId). x) chains)
+pub count_chain : (chain : List (List SwitchId)) (chains : List (List (List SwitchId))) → position_count (chain ∷ chains) ≡ length chain + position_count chains
+count_chain chain chains = length-append chain (flat_map (λ (x : List (List SwitchId)). x) chains)
 
 -- the chains that were taken are no longer than all, and the next one fits too
-pub count_next : (chains : List (List SwitchId)) (i : ℕ) (chain : List SwitchId) → slice_get chains i ≡ Some chain → position_count (take (i + 1) chains) ≡ position_count (take i chains) + length chain
+pub count_next : (chains : List (List (List SwitchId))) (i : ℕ) (chain : List (List SwitchId)) → slice_get chains i ≡ Some chain → position_count (take (i + 1) chains) ≡ position_count (take i chains) + length chain
 count_next chains i chain is =
     let a = count_append (take i chains) (chain ∷ []) in
     let b = count_chain chain [] in
     ap position_count (take_next chains i chain is) ∙ omega arith
 
-pub count_fits : (chains : List (List SwitchId)) (i : ℕ) (chain : List SwitchId) → slice_get chains i ≡ Some chain → position_count (take i chains) + length chain ≤ position_count chains
+pub count_fits : (chains : List (List (List SwitchId))) (i : ℕ) (chain : List (List SwitchId)) → slice_get chains i ≡ Some chain → position_count (take i chains) + length chain ≤ position_count chains
 count_fits chains i chain is =
     let a = count_append (take i chains) (chain ∷ drop (suc i) chains) in
     let b = count_chain chain (drop (suc i) chains) in

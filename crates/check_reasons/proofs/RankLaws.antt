@@ -6,9 +6,9 @@ use Rattle.certificates.specs.declared.OrderedEvidence.{OrderedEvidence}
 use Rattle.certificates.specs.declared.TwoPhaseEvidence.{TwoPhaseEvidence}
 use Rattle.certificates.specs.declared.Evidence.{Evidence}
 use Rattle.certificates.specs.declared.Evidence.TheVariants.{Ordered, TwoPhase}
-use Rattle.check_reasons.specs.Ranks.{Rank, IsBefore, rank_of, stage_of, round_of, number_of, least_class_number, start_at, classes_start, end_start}
+use Rattle.check_reasons.specs.Ranks.{Rank, IsBefore, rank_of, stage_of, round_of, precedence_of, least_class_number, start_at, classes_start, end_start}
 use Rattle.check_reasons.specs.Reasons.{IsReason, IsOwnReason, IsCommonReason, old_breaks, new_breaks, bad_change, ambiguous, over_capacity, wrong_end}
-use Rattle.check_reasons.specs.Reasons.{IsOrderedReason, rewrites, no_numbering, not_lower, may_drop, no_before, bypass, IsTwoPhaseReason, bad_labels, mixed_path}
+use Rattle.check_reasons.specs.Reasons.{IsOrderedReason, rewrites, no_numbering, not_lower, may_drop, may_leave, no_before, bypass, IsTwoPhaseReason, bad_labels, mixed_path}
 use Rattle.check_reasons.specs.declared.reason.Reason.{Reason}
 
 -- ---- ranks
@@ -44,8 +44,9 @@ ordered_in_rounds t e i r (rewrites k s has) = refl
 ordered_in_rounds t e i r (no_numbering k n class judged none) = refl
 ordered_in_rounds t e i r (not_lower k n class numbers sets s judged force bad) = refl
 ordered_in_rounds t e i r (may_drop k n class s judged arrive drops) = refl
+ordered_in_rounds t e i r (may_leave k n class s judged leaves) = refl
 ordered_in_rounds t e i r (no_before k n class numbers sets judged force other) = refl
-ordered_in_rounds t e i r (bypass k n j class numbers sets p s judged force at bypassed) = refl
+ordered_in_rounds t e i r (bypass k n j class numbers sets p s judged force at bypassed w least) = refl
 
 -- and so is what only a two-phase plan may have
 two_phase_in_rounds : (t : Task) (e : TwoPhaseEvidence) (i : ℕ) (r : Reason) → IsTwoPhaseReason t e i r → stage_of r ≡ 2
@@ -57,7 +58,7 @@ own_in_rounds t (Ordered e) i r h = ordered_in_rounds t e i r h
 own_in_rounds t (TwoPhase e) i r h = two_phase_in_rounds t e i r h
 
 -- what a plan of either kind may have is no reason of a class
-common_number : (t : Task) (i : ℕ) (r : Reason) → IsCommonReason t i r → stage_of r ≡ 2 → number_of r < least_class_number
+common_number : (t : Task) (i : ℕ) (r : Reason) → IsCommonReason t i r → stage_of r ≡ 2 → precedence_of r < least_class_number
 common_number t i r (old_breaks breaks first) stage = omega arith
 common_number t i r (new_breaks breaks first) stage = omega arith
 common_number t i r (bad_change k c s bad) stage = omega arith
@@ -67,7 +68,7 @@ common_number t i r (wrong_end s differ) stage = absurd (omega arith)
 
 -- where no reason of the classes of a round comes before one of them, none does that doesn't come before the classes
 pub first_of_classes : (t : Task) (evidence : Evidence) (k : ℕ) (place : Rank) → place.stage ≡ 2 → place.round ≡ suc k
-    → ((i : ℕ) (r : Reason) → IsOwnReason t evidence i r → round_of r ≡ suc k → least_class_number ≤ number_of r → ¬ IsBefore (rank_of i r) place)
+    → ((i : ℕ) (r : Reason) → IsOwnReason t evidence i r → round_of r ≡ suc k → least_class_number ≤ precedence_of r → ¬ IsBefore (rank_of i r) place)
     → (i : ℕ) (r : Reason) → IsReason t evidence i r → ¬ IsBefore (rank_of i r) (classes_start k) → ¬ IsBefore (rank_of i r) place
 first_of_classes t evidence k place stage round first i r h after before =
     let here = in_round k least_class_number (rank_of i r) place stage round after before in

@@ -3,6 +3,7 @@ use Rattle.std.proofs.Common.{◌≡◌, ◌↔◌, ℕ, suc, ◌<◌, List, [],
 use Rattle.net_base.specs.Walks.{IsWalk, end_of}
 use Rattle.net_base.specs.declared.ids.SwitchId.{SwitchId}
 use Rattle.net_base.specs.declared.ids.Place.{Place}
+use Rattle.net_base.specs.declared.ids.Stop.{Stop}
 use Rattle.net_base.proofs.MemberLaws.{IsSubsequence_refl, each_weaker}
 use Rattle.net_base.proofs.WalkLaws.{reached_start, reached_more}
 use Rattle.flow_rules.specs.Tables.{rules_at}
@@ -15,15 +16,16 @@ use Rattle.demands.specs.Duties.{PacketDuties}
 use Rattle.update_model.specs.Changes.{IsGoodRound, changes_at, rules_after, round_after}
 use Rattle.update_model.specs.Mixtures.{Rollout, tables_before, IsPossible, MayGo, IsOnMixedWalk}
 use Rattle.update_model.proofs.OneRoundLaws.{next_tables}
-use Rattle.certificates.specs.Steps.{IsMixedStep, MayLeave, MayDrop}
+use Rattle.certificates.specs.Steps.{IsMixedStep, MayLeave, MayLeaveElsewhere, MayDrop}
 use Rattle.certificates.specs.Ordered.{Position, positions, IsSafe}
 
 -- ---- what keeps a class safe, where the steps, leavings and drops of one round are those of another
 
 module _ (u v : Rollout) (k j dst : ℕ) (entry : Place) (step : (s t : SwitchId) → IsMixedStep v j dst entry s t → IsMixedStep u k dst entry s t)
-    (leaving : (s : SwitchId) → MayLeave v j dst entry s → MayLeave u k dst entry s) (dropping : MayDrop v j dst entry → MayDrop u k dst entry) where
+    (leaving : (s : SwitchId) → MayLeave v j dst entry s → MayLeave u k dst entry s) (dropping : MayDrop v j dst entry → MayDrop u k dst entry)
+    (elsewhere : (exits : List (List Stop)) (s : SwitchId) → MayLeaveElsewhere v j dst entry exits s → MayLeaveElsewhere u k dst entry exits s) where
   abbrev Guards : Rollout → ℕ → Position → Type 0
-  Guards w i p = IsGuard entry.switch (IsMixedStep w i dst entry) (MayLeave w i dst entry) p.waypoint p.earlier p.set
+  Guards w i p = IsGuard entry.switch (IsMixedStep w i dst entry) (MayLeave w i dst entry) p.item p.earlier p.set
 
   guards : (p : Position) → Guards u k p → Guards v j p
   guards p h = record {
@@ -35,6 +37,7 @@ module _ (u v : Rollout) (k j dst : ℕ) (entry : Place) (step : (s t : SwitchId
   safe_by duties numbers sets h = record {
     falls = λ s t edge. h.falls s t (step s t edge);
     arrives = λ arrive drops. h.arrives arrive (dropping drops);
+    exits = λ s leaves. h.exits s (elsewhere duties.exits s leaves);
     guarded = record {
       count = h.guarded.count;
       guards = each_weaker (Guards u k) (Guards v j) guards (positions duties.chains sets) h.guarded.guards;
@@ -63,6 +66,11 @@ module _ (u v : Rollout) (k j dst : ℕ) (entry : Place)
       let on = was_on_walk h.place h.on_walk in
       record { place = h.place; port = h.port; vlan = h.vlan; on_walk = on; leaves = was h.place on (Leave h.port h.vlan) h.leaves; at_is = h.at_is }
 
+  pub was_elsewhere : (exits : List (List Stop)) (s : SwitchId) → MayLeaveElsewhere v j dst entry exits s → MayLeaveElsewhere u k dst entry exits s
+  was_elsewhere exits s h =
+      let on = was_on_walk h.place h.on_walk in
+      record { place = h.place; port = h.port; vlan = h.vlan; on_walk = on; leaves = was h.place on (Leave h.port h.vlan) h.leaves; at_is = h.at_is; elsewhere = h.elsewhere }
+
   pub was_dropping : MayDrop v j dst entry → MayDrop u k dst entry
   was_dropping h =
       let on = was_on_walk h.place h.on_walk in
@@ -70,7 +78,7 @@ module _ (u v : Rollout) (k j dst : ℕ) (entry : Place)
 
   -- and what keeps them safe keeps it safe
   pub was_safe : (duties : PacketDuties) (numbers : List ℕ) (sets : List (List ℕ)) → IsSafe u k dst entry duties numbers sets → IsSafe v j dst entry duties numbers sets
-  was_safe duties numbers sets h = safe_by u v k j dst entry was_step was_leaving was_dropping duties numbers sets h
+  was_safe duties numbers sets h = safe_by u v k j dst entry was_step was_leaving was_dropping was_elsewhere duties numbers sets h
 
 -- ---- the same is possible at the places of the walks of one round
 
@@ -112,6 +120,17 @@ module _ (u v : Rollout) (k j dst : ℕ) (entry : Place)
     at_is = h.at_is;
   }
 
+  still_elsewhere : (exits : List (List Stop)) (s : SwitchId) → MayLeaveElsewhere u k dst entry exits s → MayLeaveElsewhere v j dst entry exits s
+  still_elsewhere exits s h = record {
+    place = h.place;
+    port = h.port;
+    vlan = h.vlan;
+    on_walk = (same_on_walk h.place).1 h.on_walk;
+    leaves = (agree h.place h.on_walk (Leave h.port h.vlan)).1 h.leaves;
+    at_is = h.at_is;
+    elsewhere = h.elsewhere;
+  }
+
   still_dropping : MayDrop u k dst entry → MayDrop v j dst entry
   still_dropping h = record { place = h.place; on_walk = (same_on_walk h.place).1 h.on_walk; drops = (agree h.place h.on_walk Discard).1 h.drops }
 
@@ -121,7 +140,7 @@ module _ (u v : Rollout) (k j dst : ℕ) (entry : Place)
   -- and the same keeps both safe
   pub same_safe : (duties : PacketDuties) (numbers : List ℕ) (sets : List (List ℕ)) → IsSafe v j dst entry duties numbers sets ↔ IsSafe u k dst entry duties numbers sets
   same_safe duties numbers sets = (
-    safe_by v u j k dst entry still_step still_leaving still_dropping duties numbers sets,
+    safe_by v u j k dst entry still_step still_leaving still_dropping still_elsewhere duties numbers sets,
     was_safe u v k j dst entry was duties numbers sets,
   )
 

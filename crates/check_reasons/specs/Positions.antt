@@ -3,7 +3,7 @@ use Rattle.std.specs.Prelude.{ℕ, zero, suc, List, [], length, map, flat_map, s
 use Rattle.net_base.specs.declared.ids.SwitchId.{SwitchId}
 
 -- how many positions the chains have together
-abbrev pub position_count : List (List SwitchId) → ℕ
+abbrev pub position_count : List (List (List SwitchId)) → ℕ
 position_count chains = length (flat_map (λ chain. chain) chains)
 
 -- the before sets with these numbers

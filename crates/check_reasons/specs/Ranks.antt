@@ -1,9 +1,9 @@
 -- Where a reason stands among the others: its number and what it names, and which of two reasons comes first.
 use Rattle.std.specs.Prelude.{◌≡◌, ◌⊎◌, ℕ, suc, ◌<◌, true, false}
 use Rattle.check_reasons.specs.declared.reason.Reason.{Reason}
-use Rattle.check_reasons.specs.declared.reason.Reason.TheVariants.{EndBreaks, BadChange, Ambiguous, OverCapacity, Rewrites, NoNumbering, NotLower, MayDrop, NoBefore, Bypass, BadLabels, MixedPath, WrongEnd}
+use Rattle.check_reasons.specs.declared.reason.Reason.TheVariants.{EndBreaks, BadChange, Ambiguous, OverCapacity, Rewrites, NoNumbering, NotLower, MayDrop, MayLeave, NoBefore, Bypass, BadLabels, MixedPath, WrongEnd}
 
--- the number of a reason, which is printed and by which the first one of a round is chosen
+-- the number of a reason, which is printed
 abbrev pub number_of : Reason → ℕ
 number_of (EndBreaks new breaks) = 1
 number_of (BadChange round s i) = 2
@@ -18,8 +18,26 @@ number_of (Bypass round n w s) = 10
 number_of (BadLabels round) = 11
 number_of (MixedPath round n s) = 12
 number_of (WrongEnd s) = 13
+number_of (MayLeave round n s) = 14
 
--- the reasons of the rounds from this number on are those of the classes
+-- by this number the first reason of a round is chosen: that of the printed one, but that leaving elsewhere comes behind dropping
+abbrev pub precedence_of : Reason → ℕ
+precedence_of (EndBreaks new breaks) = 1
+precedence_of (BadChange round s i) = 2
+precedence_of (Ambiguous round s) = 3
+precedence_of (OverCapacity round s need) = 4
+precedence_of (Rewrites round s) = 5
+precedence_of (NoNumbering round n) = 6
+precedence_of (NotLower round n s) = 7
+precedence_of (MayDrop round n s) = 8
+precedence_of (MayLeave round n s) = 9
+precedence_of (NoBefore round n) = 10
+precedence_of (Bypass round n w s) = 11
+precedence_of (BadLabels round) = 12
+precedence_of (MixedPath round n s) = 13
+precedence_of (WrongEnd s) = 14
+
+-- the reasons of the rounds from this place in the order of precedence on are those of the classes
 abbrev pub least_class_number : ℕ
 least_class_number = 6
 
@@ -40,6 +58,7 @@ round_of (Rewrites round s) = round
 round_of (NoNumbering round n) = round
 round_of (NotLower round n s) = round
 round_of (MayDrop round n s) = round
+round_of (MayLeave round n s) = round
 round_of (NoBefore round n) = round
 round_of (Bypass round n w s) = round
 round_of (BadLabels round) = round
@@ -51,6 +70,7 @@ abbrev pub class_of : Reason → ℕ
 class_of (NoNumbering round n) = n
 class_of (NotLower round n s) = n
 class_of (MayDrop round n s) = n
+class_of (MayLeave round n s) = n
 class_of (NoBefore round n) = n
 class_of (Bypass round n w s) = n
 class_of (MixedPath round n s) = n
@@ -64,6 +84,7 @@ switch_of (OverCapacity round s need) = s.0
 switch_of (Rewrites round s) = s.0
 switch_of (NotLower round n s) = s.0
 switch_of (MayDrop round n s) = s.0
+switch_of (MayLeave round n s) = s.0
 switch_of (Bypass round n w s) = s.0
 switch_of (MixedPath round n s) = s.0
 switch_of (WrongEnd s) = s.0
@@ -74,7 +95,7 @@ abbrev pub change_of : Reason → ℕ
 change_of (BadChange round s i) = i
 change_of other = 0
 
--- where a reason stands among the others; what it doesn't have is 0. That decides nothing: two reasons of one stage, round and
+-- where a reason stands among the others, with its number in the order of precedence; what it doesn't have is 0. That decides nothing: two reasons of one stage, round and
 -- number have the same parts, so one that is absent is the same in both
 pub record Rank : Type 0 where
   pub stage : ℕ
@@ -88,7 +109,7 @@ pub record Rank : Type 0 where
 -- where a reason stands, by the position of which it speaks, or 0
 abbrev pub rank_of : ℕ → Reason → Rank
 rank_of position r =
-    record { stage = stage_of r; round = round_of r; number = number_of r; class = class_of r; position = position; switch = switch_of r; change = change_of r }
+    record { stage = stage_of r; round = round_of r; number = precedence_of r; class = class_of r; position = position; switch = switch_of r; change = change_of r }
 
 -- the one number is less, or they are the same and the rest holds
 abbrev pub IsLessOr : ℕ → ℕ → Type 0 → Type 0
@@ -100,7 +121,7 @@ IsBefore a b =
     IsLessOr a.stage b.stage
     (IsLessOr a.round b.round (IsLessOr a.number b.number (IsLessOr a.class b.class (IsLessOr a.position b.position (IsLessOr a.switch b.switch (a.change < b.change))))))
 
--- where the reasons of round k, from 0, begin that have this number or a greater one
+-- where the reasons of round k, from 0, begin that have this number in the order of precedence, or a greater one
 abbrev pub start_at : ℕ → ℕ → Rank
 start_at k number = record { stage = 2; round = suc k; number = number; class = 0; position = 0; switch = 0; change = 0 }
 

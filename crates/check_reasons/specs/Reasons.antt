@@ -12,14 +12,14 @@ use Rattle.path_walk.specs.declared.Outcome.TheVariants.{Discard, Go}
 use Rattle.dest_classes.specs.Classes.{IsClass}
 use Rattle.dest_classes.specs.declared.Class.{Class}
 use Rattle.demands.specs.Duties.{PacketDuties, duties_of}
-use Rattle.config_check.specs.Broken.{IsFirstBreak}
+use Rattle.config_check.specs.Broken.{IsFirstBreak, IsLeastIn}
 use Rattle.config_check.specs.declared.Breaks.{Breaks}
 use Rattle.update_model.specs.Changes.{switch_of, rule_of, Applies, entry_named, round_after}
 use Rattle.update_model.specs.Mixtures.{Rollout, tables_before, MayHold, IsPossible, IsOnMixedWalk}
 use Rattle.update_model.specs.declared.Change.{Change}
 use Rattle.acyclic_numbering.specs.Heights.{IsLower}
 use Rattle.waypoint_evidence.specs.Befores.{Holds, HoldsEarlier, IsFirst}
-use Rattle.certificates.specs.Steps.{IsMixedStep, MayLeave}
+use Rattle.certificates.specs.Steps.{IsMixedStep, MayLeave, MayLeaveElsewhere}
 use Rattle.certificates.specs.Ordered.{Position, positions, IsPickInForce, IsMeant}
 use Rattle.certificates.specs.Updates.{Task, rollout}
 use Rattle.certificates.specs.Certified.{classes_for, KeepsVlan}
@@ -37,6 +37,7 @@ use Rattle.net_base.specs.Walks.{IsWalk, end_of}
 use Rattle.net_base.specs.declared.ids.Vlan.{Vlan}
 use Rattle.check_reasons.specs.Ranks.{IsBefore, rank_of}
 use Rattle.check_reasons.specs.declared.reason.Reason.{Reason}
+use Rattle.check_reasons.specs.declared.reason.Reason.TheVariants as reason
 use Rattle.check_reasons.specs.declared.reason.Reason.TheVariants.{EndBreaks, BadChange, Ambiguous, OverCapacity, Rewrites, NoNumbering, NotLower, MayDrop, NoBefore, Bypass, BadLabels, MixedPath, WrongEnd}
 
 -- change i of round k is bad: it doesn't apply, or an earlier one of the round names its entry
@@ -83,9 +84,9 @@ pub record DropsAt (u : Rollout) (k dst : ℕ) (entry : Place) (s : SwitchId) : 
 -- or the set holds the switch and a packet may leave there, or may step from there outside the set otherwise than to the waypoint
 abbrev pub IsBypassed : Rollout → ℕ → ℕ → Place → Position → SwitchId → Type 0
 IsBypassed u k dst entry p s =
-    ((s ≡ entry.switch) × ¬ (Holds p.set s ⊎ (IsFirst p.earlier × (s ≡ p.waypoint))))
+    ((s ≡ entry.switch) × ¬ (Holds p.set s ⊎ (IsFirst p.earlier × IsIn s p.item)))
     ⊎ ((Holds p.set s × MayLeave u k dst entry s)
-    ⊎ ((t : SwitchId) × Holds p.set s × IsMixedStep u k dst entry s t × (¬ Holds p.set t) × ¬ ((¬ HoldsEarlier p.earlier s) × (t ≡ p.waypoint))))
+    ⊎ ((t : SwitchId) × Holds p.set s × IsMixedStep u k dst entry s t × (¬ Holds p.set t) × ¬ ((¬ HoldsEarlier p.earlier s) × IsIn t p.item)))
 
 -- what is demanded of the packets of a class
 abbrev pub class_duties : Task → Class → PacketDuties
@@ -148,11 +149,13 @@ pub data IsOrderedReason (t : Task) (e : OrderedEvidence) : ℕ → Reason → T
       → HasBadStep (rollout t) k class.first class.entry numbers s → IsOrderedReason t e 0 (NotLower (suc k) n s)
   may_drop : (k n : ℕ) (class : Class) (s : SwitchId) → IsJudged t k n class → IsTrue (class_duties t class).arrive → DropsAt (rollout t) k class.first class.entry s
       → IsOrderedReason t e 0 (MayDrop (suc k) n s)
+  may_leave : (k n : ℕ) (class : Class) (s : SwitchId) → IsJudged t k n class → MayLeaveElsewhere (rollout t) k class.first class.entry (class_duties t class).exits s
+      → IsOrderedReason t e 0 (reason.MayLeave (suc k) n s)
   no_before : (k n : ℕ) (class : Class) (numbers : List ℕ) (sets : List (List ℕ)) → IsJudged t k n class → IsInForce e k n numbers sets
       → length sets ≢ length (flat_map (λ chain. chain) (class_duties t class).chains) → IsOrderedReason t e 0 (NoBefore (suc k) n)
   bypass : (k n i : ℕ) (class : Class) (numbers : List ℕ) (sets : List (List ℕ)) (p : Position) (s : SwitchId) → IsJudged t k n class → IsInForce e k n numbers sets
       → slice_get (positions (class_duties t class).chains sets) i ≡ Some p → IsBypassed (rollout t) k class.first class.entry p s
-      → IsOrderedReason t e i (Bypass (suc k) n p.waypoint s)
+      → (w : SwitchId) → IsLeastIn p.item w → IsOrderedReason t e i (Bypass (suc k) n w s)
 
 -- a reason that only a two-phase plan may have; it speaks of no position
 pub data IsTwoPhaseReason (t : Task) (e : TwoPhaseEvidence) : ℕ → Reason → Type 0 where

@@ -1,6 +1,6 @@
 //! Why a plan is refused.
 ghost use Rattle.std.specs.Prelude.{◌≡◌};
-ghost use Rattle.check_reasons.specs.Ranks.{number_of};
+ghost use Rattle.check_reasons.specs.Ranks.{number_of, precedence_of};
 
 use config_check::{Breaks, EndBreak};
 use net_base::SwitchId;
@@ -52,12 +52,19 @@ pub enum Reason {
         class: u32,
         switch: SwitchId,
     },
+    /// A packet of the class may leave the network at the switch by a port that isn't one of the class's exits.
+    MayLeave {
+        round: u32,
+        class: u32,
+        switch: SwitchId,
+    },
     /// There aren't as many before sets as the chains of the class have positions.
     NoBefore {
         round: u32,
         class: u32,
     },
-    /// The set before the waypoint may be left at the switch otherwise than to the waypoint, or doesn't hold the entry.
+    /// The set before an item of a chain may be left at the switch otherwise than to a switch of the item, or doesn't hold the
+    /// entry. The waypoint is the least switch of the item.
     Bypass {
         round: u32,
         class: u32,
@@ -91,7 +98,7 @@ impl Reason {
         }
     }
 
-    /// The number of the reason, from 1 to 13: it is printed, and the first reason of a round is chosen by it.
+    /// The number of the reason, from 1 to 14, which is printed.
     pub fn number(self) -> u32
         ensures { result ≡ number_of self }
     {
@@ -109,6 +116,30 @@ impl Reason {
             Reason::BadLabels { .. } => 11,
             Reason::MixedPath { .. } => 12,
             Reason::WrongEnd { .. } => 13,
+            Reason::MayLeave { .. } => 14,
+        }
+    }
+
+    /// By this number, from 1 to 14, the first reason of a round is chosen. The reasons stand in the order of their printed
+    /// numbers, but that a packet may leave elsewhere comes directly behind that it may be dropped.
+    pub fn precedence(self) -> u32
+        ensures { result ≡ precedence_of self }
+    {
+        match self {
+            Reason::EndBreaks { .. } => 1,
+            Reason::BadChange { .. } => 2,
+            Reason::Ambiguous { .. } => 3,
+            Reason::OverCapacity { .. } => 4,
+            Reason::Rewrites { .. } => 5,
+            Reason::NoNumbering { .. } => 6,
+            Reason::NotLower { .. } => 7,
+            Reason::MayDrop { .. } => 8,
+            Reason::MayLeave { .. } => 9,
+            Reason::NoBefore { .. } => 10,
+            Reason::Bypass { .. } => 11,
+            Reason::BadLabels { .. } => 12,
+            Reason::MixedPath { .. } => 13,
+            Reason::WrongEnd { .. } => 14,
         }
     }
 }

@@ -4,8 +4,8 @@ use crate::empty_rounds;
 use certify_command::certify;
 use command_base::Status;
 use example_files::{
-    Answer, UpdateTexts, answer_of, detour, detour_plans, leaves, none, single, square, triangle,
-    wide,
+    Answer, UpdateTexts, answer_of, detour, detour_plans, exits, leaves, none, single, square,
+    triangle, wide,
 };
 use std::alloc::Global;
 use std::process::Abort;
@@ -42,11 +42,12 @@ fn are_answered(
 
 #[test]
 fn rounds_of_a_search_get_its_evidence(rt: HostRuntime) {
-    let rows: [(UpdateTexts<'_>, &[u8], &[u8]); 4] = [
+    let rows: [(UpdateTexts<'_>, &[u8], &[u8]); 5] = [
         (square::update(), square::plan(), square::plan()),
         (square::update(), square::plan_in_format_1(), square::plan()),
         (square::update(), square::a_pick_too_few(), square::plan()),
         (leaves::update(), leaves::plan(), leaves::plan()),
+        (exits::update(), exits::plan(), exits::searched()),
     ];
     are_answered(&rt, rt.alloc(), &rows, Status::Done);
 }
@@ -75,7 +76,7 @@ fn rounds_may_be_empty(rt: HostRuntime) {
 
 #[test]
 fn what_is_written_is_accepted(rt: HostRuntime) {
-    let rows: [(UpdateTexts<'_>, &[u8], &[u8]); 3] = [
+    let rows: [(UpdateTexts<'_>, &[u8], &[u8]); 4] = [
         (
             square::update(),
             empty_rounds::rounds(),
@@ -91,6 +92,11 @@ fn what_is_written_is_accepted(rt: HostRuntime) {
             leaves_at_once(),
             b"accepted: ordered, 1 rounds, 96 classes\n",
         ),
+        (
+            exits::update(),
+            exits::plan(),
+            b"accepted: ordered, 2 rounds, 12 classes\n",
+        ),
     ];
     let alloc = rt.alloc();
     for (i, (texts, plan, line)) in rows.iter().enumerate() {
@@ -102,7 +108,7 @@ fn what_is_written_is_accepted(rt: HostRuntime) {
 
 #[test]
 fn rounds_without_evidence_are_refused(rt: HostRuntime) {
-    let rows: [(UpdateTexts<'_>, &[u8], &[u8]); 9] = [
+    let rows: [(UpdateTexts<'_>, &[u8], &[u8]); 10] = [
         (
             square::update(),
             square::both_at_once(),
@@ -112,6 +118,12 @@ fn rounds_without_evidence_are_refused(rt: HostRuntime) {
             detour::update(),
             detour_plans::past_the_waypoint(),
             b"no evidence: round 1 at s:1 untagged 10.0.0.0\n",
+        ),
+        // No numbering keeps a packet from leaving where it mustn't.
+        (
+            exits::update(),
+            exits::both_at_once(),
+            b"no evidence: round 1 at a:1 untagged 10.0.0.0\n",
         ),
         (
             detour::update(),

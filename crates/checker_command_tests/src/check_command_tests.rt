@@ -2,8 +2,8 @@
 use crate::answers::checked;
 use command_base::Status;
 use example_files::{
-    UpdateTexts, detour, detour_plans, four_ports, halves, none, pair, single, square, triangle,
-    wide,
+    UpdateTexts, detour, detour_plans, exits, four_ports, halves, none, pair, single, square,
+    triangle, wide,
 };
 use std::alloc::Global;
 use std::process::Abort;
@@ -23,7 +23,7 @@ fn are_answered(
 
 #[test]
 fn certified_plans_are_accepted(rt: HostRuntime) {
-    let rows: [(UpdateTexts<'_>, &[u8], &[u8]); 5] = [
+    let rows: [(UpdateTexts<'_>, &[u8], &[u8]); 6] = [
         (
             square::update(),
             square::plan_in_format_1(),
@@ -48,6 +48,11 @@ fn certified_plans_are_accepted(rt: HostRuntime) {
             halves::update(),
             halves::plan(),
             b"accepted: ordered, 1 rounds, 8 classes\n",
+        ),
+        (
+            exits::update(),
+            exits::plan(),
+            b"accepted: ordered, 2 rounds, 12 classes\n",
         ),
     ];
     are_answered(&rt, rt.alloc(), &rows, Status::Done);
@@ -127,6 +132,29 @@ fn ordered_plans_without_evidence_are_refused(rt: HostRuntime) {
             halves::update(),
             halves::past_the_last_waypoint_in_one_half(),
             b"refused: 10 Bypass round 1 at s:1 untagged 10.0.0.128 waypoint d switch s\n",
+        ),
+    ];
+    are_answered(&rt, rt.alloc(), &rows, Status::Refused);
+}
+
+#[test]
+fn a_plan_by_which_packets_may_leave_elsewhere_is_refused(rt: HostRuntime) {
+    let rows: [(UpdateTexts<'_>, &[u8], &[u8]); 3] = [
+        (
+            exits::update(),
+            exits::both_at_once(),
+            b"refused: 14 MayLeave round 1 at a:1 untagged 10.0.0.0 switch c\n",
+        ),
+        // The use has no before set for the waypoint either, which comes behind.
+        (
+            exits::update_through_b(),
+            exits::both_at_once(),
+            b"refused: 14 MayLeave round 1 at a:1 untagged 10.0.0.0 switch c\n",
+        ),
+        (
+            exits::update_to_c(),
+            exits::plan(),
+            b"refused: 1 EndBreaks new at a:1 untagged 10.0.0.0 Leaked c\n",
         ),
     ];
     are_answered(&rt, rt.alloc(), &rows, Status::Refused);

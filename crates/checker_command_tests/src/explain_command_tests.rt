@@ -3,7 +3,8 @@ use crate::answers::{check_names, held, replayed};
 use crate::explain_examples;
 use command_base::Status;
 use example_files::{
-    Answer, UpdateTexts, answer_of, detour, detour_plans, none, single, square, triangle, wide,
+    Answer, UpdateTexts, answer_of, detour, detour_plans, exits, none, single, square, triangle,
+    wide,
 };
 use explain_command::explain;
 use std::alloc::Global;
@@ -13,6 +14,9 @@ const NO_RUN: &[u8] = b"no run: every mixed walk is good\n";
 
 /// s3 sends back to s1 before s1 sends to s4.
 const BACK_TO_S1: &[u8] = b"start\nenter s1:1 untagged 10.0.0.0\nhop 0\nhop 0\nchange 1\nhop 0\n";
+
+/// a sends to c, which still sends out.
+const OUT_AT_C: &[u8] = b"start\nenter a:1 untagged 10.0.0.0\nchange 1\nhop 0\nhop 0\n";
 
 /// s sends past w.
 const PAST_W: &[u8] = b"start\nenter s:1 untagged 10.0.0.0\nchange 0\nhop 0\nhop 0\nhop 0\n";
@@ -58,6 +62,37 @@ fn a_run_breaks_the_policy(rt: HostRuntime) {
             explain_examples::straight_kept(),
             explain_examples::sent_back(),
             b"start\nenter a:1 untagged 10.0.0.0\nhop 0\nchange 0\nhop 0\n",
+        ),
+    ];
+    are_answered(&rt, rt.alloc(), &rows, Status::Done);
+}
+
+#[test]
+fn a_packet_leaves_elsewhere_than_at_an_exit(rt: HostRuntime) {
+    let rows: [(UpdateTexts<'_>, &[u8], &[u8]); 3] = [
+        // a sends to c before c sends on to b.
+        (exits::update(), exits::both_at_once(), OUT_AT_C),
+        // The packet misses the waypoint b besides.
+        (exits::update_through_b(), exits::both_at_once(), OUT_AT_C),
+        // c sends out before a sends elsewhere, and nothing may leave.
+        (
+            explain_examples::denied(),
+            explain_examples::let_out(),
+            b"start\nenter a:1 untagged 10.0.0.0\nhop 0\nchange 0\nhop 0\n",
+        ),
+    ];
+    are_answered(&rt, rt.alloc(), &rows, Status::Done);
+}
+
+#[test]
+fn no_packet_leaves_elsewhere_or_past_a_group(rt: HostRuntime) {
+    let rows: [(UpdateTexts<'_>, &[u8], &[u8]); 2] = [
+        (exits::update(), exits::plan(), NO_RUN),
+        // Each path visits b or c, wherever it leaves.
+        (
+            explain_examples::through_either(),
+            exits::both_at_once(),
+            NO_RUN,
         ),
     ];
     are_answered(&rt, rt.alloc(), &rows, Status::Done);

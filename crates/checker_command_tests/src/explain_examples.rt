@@ -1,5 +1,5 @@
 //! Updates and plans in which a packet breaks the policy, or whose rounds aren't good.
-use example_files::{UpdateTexts, detour, none, single};
+use example_files::{UpdateTexts, detour, exits, none, single};
 
 /// Two switches a and b with two links.
 fn two_links() -> &'static [u8] {
@@ -99,4 +99,29 @@ pub fn ambiguous_and_then_bad() -> &'static [u8] {
 /// In one round a rule comes to cover a packet beside another, and one is deleted that isn't there.
 pub fn ambiguous_and_bad() -> &'static [u8] {
     br#"{"format":1,"kind":"ordered","rounds":[[{"do":"insert","switch":"a","priority":100,"dst":"10.0.0.0/24","out":2,"vlan":"untagged"},{"do":"delete","switch":"a","priority":90,"dst":"10.0.0.0/24","out":2}]],"numberings":[],"befores":[],"picks":[]}"#
+}
+
+/// Nothing that enters at the first host port of a may leave: c drops it, and b in the end.
+pub fn denied() -> UpdateTexts<'static> {
+    UpdateTexts {
+        topology: exits::topology(),
+        old: br#"{"rules":[{"switch":"a","priority":100,"dst":"10.0.0.0/24","out":3}]}"#,
+        new: br#"{"rules":[{"switch":"a","priority":100,"dst":"10.0.0.0/24","out":2},{"switch":"c","priority":100,"dst":"10.0.0.0/24","out":2}]}"#,
+        policy: exits::denied(),
+    }
+}
+
+/// c sends out, and a sends to b, in one round.
+pub fn let_out() -> &'static [u8] {
+    br#"{"befores":[],"format":2,"kind":"ordered","numberings":[],"picks":[],"rounds":[[["insert",0],["replace",1]]],"rules":[{"dst":"10.0.0.0/24","out":2,"priority":100,"switch":"c"},{"dst":"10.0.0.0/24","out":2,"priority":100,"switch":"a"}],"uses":[]}"#
+}
+
+/// The update of the triangle, where packets have to visit c or b.
+pub fn through_either() -> UpdateTexts<'static> {
+    UpdateTexts {
+        topology: exits::topology(),
+        old: exits::to_b(),
+        new: exits::round_to_b(),
+        policy: exits::through_either(),
+    }
 }

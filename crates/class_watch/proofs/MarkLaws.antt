@@ -16,8 +16,8 @@ use Rattle.dest_classes.proofs.MapLaws.{class_is, number_fits}
 use Rattle.check_reasons.specs.AtomMarks.{is_marked}
 use Rattle.check_reasons.proofs.PositionLaws.{get_set_same, get_set_other}
 use Rattle.class_watch.specs.Classes.{AreClasses}
-use Rattle.class_watch.specs.Walks.{HoldsWalks, WalksStand}
-use Rattle.class_watch.specs.Judges.{JudgedRound, changes_in, HasRoomFor, IsHeld, AreHeld, AreWalkedBelow, IsUnmet, ArePassedOver, AreMarkedWith, IsOfGroup, AreOfGroup, AreGathered}
+use Rattle.class_watch.specs.Walks.{HoldsWalks, HoldsWalksBefore, WalksStand}
+use Rattle.class_watch.specs.Judges.{JudgedRound, changes_in, HasRoomFor, IsHeld, AreHeld, AreWalkedBelow, IsUnmet, AreUnmet, ArePassedOver, AreMarkedWith, IsOfGroup, AreOfGroup, AreGathered}
 use Rattle.class_watch.specs.declared.judge.Group.{Group}
 use Rattle.class_watch.proofs.ListLaws.{some_at}
 use Rattle.class_watch.proofs.StandLaws.{untouched_walk}
@@ -111,6 +111,13 @@ pub all_marked : (count n : ℕ) → n < length (replicate count true) → slice
 all_marked zero n less = absurd (omega arith)
 all_marked (suc count) zero less = refl
 all_marked (suc count) (suc n) less = all_marked count n (omega arith)
+
+-- a class that no change meets is held, where what was held of it in the round before still is
+pub unmet_held : (at : JudgedRound) (stands : ℕ → Type 0) (holds : ℕ → Class → Type 0) (classes : List Class) (came : List ℕ) (good : List Bool) → AreClasses at.classes classes
+    → ((n : ℕ) (class : Class) (them : ℕ) → IsClass at.classes n class → IsUnmet at stands n class them → HoldsWalksBefore at.update at.number class them → IsHeld at holds n class them)
+    → WalksStand at.update at.number classes came → AreUnmet at stands classes came good → AreHeld at holds classes came good
+unmet_held at stands holds classes came good are law walks unmet n class them is came_is on =
+    law n class them (are.each n class is) (unmet n class them is came_is on) (walks n class them is came_is)
 
 -- ---- groups
 

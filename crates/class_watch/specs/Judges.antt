@@ -120,3 +120,7 @@ pub record IsAsBefore (n : ℕ) (old_good new_good : List Bool) (old_came new_ca
 abbrev pub AreMarkedWith : List NumberedClass → ℕ → List Bool → List ℕ → List Bool → List ℕ → Type 0
 AreMarkedWith members set good came good_ came_ =
     (n : ℕ) → IsAsBefore n good good_ came came_ ⊎ IsMarkedAt members set n good_ came_
+
+-- each class is marked
+abbrev pub AreAllMarked : List Bool → Type 0
+AreAllMarked good = (n : ℕ) → n < length good → slice_get good n ≡ Some true

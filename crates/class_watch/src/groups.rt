@@ -6,9 +6,11 @@ ghost use Rattle.topology.specs.Networks.{IsUsed};
 ghost use Rattle.dest_classes.specs.declared.NumberedClass.{NumberedClass};
 ghost use Rattle.update_model.specs.Mixtures.{Rollout};
 ghost use Rattle.mixed_walks.specs.Walks.{IsRoundOf, AreTogether};
+ghost use Rattle.class_watch.specs.Came.{LiesIn};
 ghost use Rattle.class_watch.specs.Classes.{AreClasses};
 ghost use Rattle.class_watch.specs.Judges.{AreGathered, AreMarkedWith};
 
+use crate::came::CameSets;
 use crate::judge::{ClassJudge, Group, WatchedRound};
 use dest_classes::{Class, NumberedClass};
 use mixed_walks::WalkRoom;
@@ -116,8 +118,9 @@ pub(crate) fn mark_members(
     members: &[NumberedClass],
     set: SwitchSet,
     good: &mut Vec<bool>,
-    came: &mut Vec<SwitchSet>,
+    came: &mut CameSets,
 )
+    requires set { LiesIn set came.old.anywhere }
     requires good { (m : NumberedClass) → IsIn m members.now → m.number < length good.old.items }
     requires came { (m : NumberedClass) → IsIn m members.now → m.number < length came.old.items }
     ensures good { length good.new.items ≡ length good.old.items }
@@ -127,6 +130,6 @@ pub(crate) fn mark_members(
 {
     for member in members {
         good[member.number as usize] = true;
-        came[member.number as usize] = set;
+        came.put(member.number as usize, set);
     }
 }

@@ -77,6 +77,13 @@ pub trait ClassJudge {
         requires class { IsNumbered (judged self.now).classes numbered }
         ensures { result ≡ true → stands self.now numbered.number };
 
+    /// Whether that is so of every class. Only the speed rests on it.
+    fn can_all_stand(&self) -> bool
+        requires { is_ready self.now }
+        ensures { result ≡ true → (n : ℕ) (class : Class)
+            → IsNumbered (judged self.now).classes (record { number = n; class = class })
+            → stands self.now n };
+
     /// Whether a change of the round may cover the address of a class. Only the speed rests on it.
     fn may_touch(&self, numbered: NumberedClass) -> bool
         requires ready { is_ready self.now }

@@ -4,27 +4,30 @@ ghost use Rattle.dest_classes.specs.Classes.{class_count};
 ghost use Rattle.class_watch.specs.Judges.{IsWatched, HasRoomFor, AreKeptClasses, AreMarkedHeld, AreMarkedOver, AreWalkedBelow, ArePassedOver};
 ghost use Rattle.class_watch.specs.Walks.{WalksStand};
 
+use crate::came::CameSets;
 use crate::classes::all_classes;
 use crate::groups::{gather, mark_members, walk_members};
 use crate::judge::{ClassJudge, WatchedRound};
 use crate::looked::LookedAtoms;
+use crate::near::NearChanges;
 use crate::unmet::mark_unmet;
 use crate::watch::switches_on;
 use dest_classes::{Class, ClassMap, NumberedClass};
 use mixed_walks::WalkRoom;
-use net_base::{Memory, SwitchSet};
+use net_base::Memory;
 use std::alloc::Global;
 use topology::Net;
 
 /// Room for walks; the classes of a map; for each class the switches that its walks came to in the round that was judged last,
-/// and whether it is good there, which is to say that what the judge asks is held of it; and the classes that are walked
-/// together.
+/// and whether it is good there, which is to say that what the judge asks is held of it; the changes of the round at switches
+/// to which classes come; and the classes that are walked together.
 #[derive(Drop)]
 pub struct ClassRounds {
     pub walk: WalkRoom,
     pub classes: Vec<Class>,
-    pub came: Vec<SwitchSet>,
+    pub came: CameSets,
     pub good: Vec<bool>,
+    pub near: NearChanges,
     pub members: Vec<NumberedClass>,
 }
 
@@ -34,13 +37,15 @@ fn make_rounds(alloc: Global, classes: &ClassMap, walk: WalkRoom) -> Result<Clas
         (λ r. HasRoomFor classes.now r.classes.items r.came.items r.good.items) }
 {
     let count = classes.count() as usize;
-    let came = vec![in alloc; SwitchSet::none(); count]?;
+    let came = CameSets::none(alloc, count)?;
+    let near = NearChanges::make(alloc)?;
     let good = vec![in alloc; false; count]?;
     let members = Vec::with_capacity(alloc, count)?;
     Ok(ClassRounds {
         classes: all_classes(alloc, classes)?,
         came,
         good,
+        near,
         members,
         walk,
     })
@@ -56,7 +61,8 @@ fn classes_of_host(net: &Net, classes: &[Class]) -> u32
 }
 
 impl ClassRounds {
-    /// Room for the classes of a map: less than 60 bytes for each, and the room for walks. Nothing is known of any.
+    /// Room for the classes of a map: less than 60 bytes for each, room for 64 changes, and the room for walks. Nothing is
+    /// known of any.
     pub fn make(alloc: Global, classes: &ClassMap) -> Result<ClassRounds, Memory>
         ensures { IfOk result
             (λ r. HasRoomFor classes.now r.classes.items r.came.items r.good.items) }
@@ -99,6 +105,7 @@ impl ClassRounds {
         }
         walk_members(&mut self.walk, round, group, &self.members);
         judge.together(found, &self.walk, group, &mut self.members);
+        self.came.widen(&self.walk);
         let came = switches_on(&self.walk);
         mark_members(&self.members, came, &mut self.good, &mut self.came);
     }
@@ -159,9 +166,10 @@ impl ClassRounds {
         round.net.keeps_rules();
         let class = self.classes[place];
         self.walk.walk(round.net, round.mixes, class);
+        self.came.widen(&self.walk);
         let came = switches_on(&self.walk);
         self.good[place] = judge.alone(found, &self.walk, NumberedClass { number, class });
-        self.came[place] = came;
+        self.came.put(place, came);
     }
 
     /// Walks each class by itself that isn't marked, in the order of their numbers.
@@ -195,9 +203,10 @@ impl ClassRounds {
     /// the round may be met by at a switch that their walks came to in the round before stay good. The others are walked, those
     /// of one group together first; each of which that doesn't tell is walked alone, in the order of their numbers.
     ///
-    /// Only classes are looked at whose atoms are. Beside the walks a round takes time by the product of its changes and the
-    /// classes that they touch, where it has at most 64 changes; in a longer one each class that a change touches is walked.
-    /// A byte is set for each class.
+    /// Only classes are looked at whose atoms are, and only changes at switches to which walks have come; where there are none,
+    /// the round may be over at once. Beside the walks it takes time by its changes, and by the product of those that are
+    /// looked at and the classes that they touch, where they are at most 64; where they are more, each class that a change
+    /// touches is walked. A byte is set for each class.
     pub fn judge<J: ClassJudge>(
         &mut self,
         judge: &J,
@@ -223,14 +232,17 @@ impl ClassRounds {
         ensures told { J.tells judge.now found.new (class_count (J.judged judge.now).classes) }
     {
         judge.keeps_held();
-        mark_unmet(
+        self.near.gather(round.changes, self.came.anywhere());
+        if mark_unmet(
             judge,
-            round.changes,
+            &self.near,
             &self.classes,
             &self.came,
             looked,
             &mut self.good,
-        );
+        ) {
+            return;
+        }
         self.settle(judge, found, round, looked);
         self.judge_rest(judge, found, round, looked);
     }

@@ -15,7 +15,7 @@ use Rattle.plan_format.specs.Faults as plan_fault
 use Rattle.plan_format.specs.declared.fault.PlanFault.{PlanFault}
 use Rattle.dest_classes.specs.declared.Class.{Class}
 use Rattle.config_check.specs.declared.How.{How}
-use Rattle.config_check.specs.declared.How.TheVariants.{Loop, Dropped, Missed}
+use Rattle.config_check.specs.declared.How.TheVariants.{Loop, Dropped, Leaked, Missed}
 use Rattle.command_base.specs.declared.kinds.FileKind.{FileKind}
 use Rattle.command_base.specs.Kinds.{kind_name}
 
@@ -69,12 +69,14 @@ class_text net class =
 abbrev pub how_word : How → List ℕ
 how_word (Loop s) = codes "Loop"
 how_word (Dropped s) = codes "Dropped"
+how_word (Leaked s) = codes "Leaked"
 how_word (Missed s) = codes "Missed"
 
 -- the switch that it names
 abbrev pub how_switch : How → SwitchId
 how_switch (Loop s) = s
 how_switch (Dropped s) = s
+how_switch (Leaked s) = s
 how_switch (Missed s) = s
 
 -- how a path breaks its duties, and the switch

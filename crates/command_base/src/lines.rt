@@ -70,6 +70,7 @@ fn how_word(how: How) -> &'static str
     match how {
         How::Loop(_) => "Loop",
         How::Dropped(_) => "Dropped",
+        How::Leaked(_) => "Leaked",
         How::Missed(_) => "Missed",
     }
 }
@@ -81,6 +82,7 @@ fn how_switch(how: How) -> SwitchId
     match how {
         How::Loop(switch) => switch,
         How::Dropped(switch) => switch,
+        How::Leaked(switch) => switch,
         How::Missed(switch) => switch,
     }
 }

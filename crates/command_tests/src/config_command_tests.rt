@@ -2,8 +2,8 @@
 use command_base::Status;
 use config_command::{ConfigNames, config};
 use example_files::{
-    Answer, ConfigTexts, answer_of, config_source, detour, halves, none, single, square, triangle,
-    wide,
+    Answer, ConfigTexts, answer_of, config_source, detour, exits, halves, none, single, square,
+    triangle, wide,
 };
 use std::alloc::Global;
 use std::process::Abort;
@@ -111,6 +111,83 @@ fn the_first_break_is_named(rt: HostRuntime) {
                 halves::turned_for_one_half(),
             ),
             b"breaks: at s:1 untagged 10.0.0.128 Missed w\n",
+        ),
+    ];
+    are_answered(&rt, rt.alloc(), &rows, Status::Refused);
+}
+
+#[test]
+fn paths_that_leave_at_an_exit_hold(rt: HostRuntime) {
+    let rows: [(ConfigTexts<'_>, &[u8]); 6] = [
+        (
+            under(exits::topology(), exits::to_b(), exits::only_b()),
+            b"holds: 12 classes\n",
+        ),
+        // What enters at an exit is no traffic for it, where a demand is for any host port.
+        (
+            under(exits::topology(), exits::from_b_to_c(), exits::all_to_b()),
+            b"holds: 12 classes\n",
+        ),
+        (
+            under(exits::topology(), exits::to_c(), exits::either_and_c()),
+            b"holds: 12 classes\n",
+        ),
+        (
+            under(exits::topology(), none::no_rules(), exits::denied()),
+            b"holds: 12 classes\n",
+        ),
+        (
+            under(exits::topology(), exits::to_b(), exits::through_either()),
+            b"holds: 12 classes\n",
+        ),
+        (
+            under(exits::topology(), exits::to_c(), exits::through_either()),
+            b"holds: 12 classes\n",
+        ),
+    ];
+    are_answered(&rt, rt.alloc(), &rows, Status::Done);
+}
+
+#[test]
+fn a_packet_that_leaves_elsewhere_has_leaked(rt: HostRuntime) {
+    let rows: [(ConfigTexts<'_>, &[u8]); 7] = [
+        (
+            under(exits::topology(), exits::to_c(), exits::only_b()),
+            b"breaks: at a:1 untagged 10.0.0.0 Leaked c\n",
+        ),
+        (
+            under(
+                exits::topology(),
+                exits::from_b_to_c(),
+                exits::from_b_only_b(),
+            ),
+            b"breaks: at b:2 untagged 10.0.0.0 Leaked c\n",
+        ),
+        (
+            under(exits::topology(), exits::to_b(), exits::either_and_c()),
+            b"breaks: at a:1 untagged 10.0.0.0 Leaked b\n",
+        ),
+        (
+            under(exits::topology(), exits::to_b(), exits::denied()),
+            b"breaks: at a:1 untagged 10.0.0.0 Leaked b\n",
+        ),
+        // The exits are judged before the waypoints.
+        (
+            under(exits::topology(), exits::at_a(), exits::through_b_only_b()),
+            b"breaks: at a:1 untagged 10.0.0.0 Leaked a\n",
+        ),
+        // Of a group that is missed the least switch is named.
+        (
+            under(exits::topology(), exits::at_a(), exits::through_either()),
+            b"breaks: at a:1 untagged 10.0.0.0 Missed b\n",
+        ),
+        (
+            under(
+                exits::topology(),
+                exits::to_c(),
+                exits::through_either_then_c(),
+            ),
+            b"breaks: at a:1 untagged 10.0.0.0 Missed c\n",
         ),
     ];
     are_answered(&rt, rt.alloc(), &rows, Status::Refused);

@@ -2,7 +2,8 @@
 use command_base::Status;
 use config_command::ConfigNames;
 use example_files::{
-    Answer, ConfigTexts, answer_of, config_source, detour, none, single, square, triangle, wide,
+    Answer, ConfigTexts, answer_of, config_source, detour, exits, none, single, square, triangle,
+    wide,
 };
 use paths_command::paths;
 use std::alloc::Global;
@@ -134,7 +135,7 @@ d:3 untagged 10.0.1.0: d:3 dropped d free\n\
 
 #[test]
 fn all_that_break_are_marked(rt: HostRuntime) {
-    let rows: [(ConfigTexts<'_>, &[u8]); 6] = [
+    let rows: [(ConfigTexts<'_>, &[u8]); 7] = [
         (
             free(TWO_LINKS, TO_AND_FRO),
             b"a:1 untagged 0.0.0.0: a:1 dropped a free\n\
@@ -190,6 +191,22 @@ d:3 untagged 10.0.0.0: d:3 dropped d free\n\
 d:3 untagged 10.0.1.0: d:3 dropped d free\n\
 d:3 untagged 10.0.2.0: d:3 dropped d free\n\
 8 classes: 0 good, 7 free, 1 break\n",
+        ),
+        (
+            under(exits::topology(), exits::to_c(), exits::only_b()),
+            b"a:1 untagged 0.0.0.0: a:1 dropped a free\n\
+a:1 untagged 10.0.0.0: a:1 c:1 left c:2 untagged Leaked c\n\
+a:1 untagged 10.0.1.0: a:1 dropped a free\n\
+a:4 untagged 0.0.0.0: a:4 dropped a free\n\
+a:4 untagged 10.0.0.0: a:4 c:1 left c:2 untagged free\n\
+a:4 untagged 10.0.1.0: a:4 dropped a free\n\
+b:2 untagged 0.0.0.0: b:2 dropped b free\n\
+b:2 untagged 10.0.0.0: b:2 dropped b free\n\
+b:2 untagged 10.0.1.0: b:2 dropped b free\n\
+c:2 untagged 0.0.0.0: c:2 dropped c free\n\
+c:2 untagged 10.0.0.0: c:2 dropped c free\n\
+c:2 untagged 10.0.1.0: c:2 dropped c free\n\
+12 classes: 0 good, 11 free, 1 break\n",
         ),
     ];
     are_answered(&rt, rt.alloc(), &rows, Status::Refused);

@@ -1,8 +1,8 @@
 -- From the end of a walk to a good path, or to how it breaks duties.
 use Rattle.std.proofs.Common.{◌≡◌, ℕ, zero, suc, ◌+◌, ◌<◌, List, [], ◌∷◌, ◌++◌, take, drop, sym, ◌∙◌, subst, ap, add-one}
-use Rattle.std.specs.Prelude.{Option, Some, None, IfNone, slice_get, flat_map}
+use Rattle.std.specs.Prelude.{IsTrue, Option, Some, None, IfNone, slice_get, flat_map}
 use Rattle.std.specs.List.{AllByRecursion}
-use Rattle.net_base.specs.Members.{IsIn, IsSubsequence}
+use Rattle.net_base.specs.Members.{IsIn, MeetsInOrder}
 use Rattle.net_base.specs.Places.{stop_of}
 use Rattle.net_base.proofs.MemberLaws.{each_at, in_append_left}
 use Rattle.net_base.proofs.ItemLaws.{in_from_get}
@@ -17,7 +17,7 @@ use Rattle.dest_classes.specs.declared.Class.{Class}
 use Rattle.flow_rules.specs.declared.rules.Rule.{Rule}
 use Rattle.path_walk.specs.Walked.{EndsOnce}
 use Rattle.path_walk.specs.declared.Ended.TheVariants as end
-use Rattle.demands.specs.Duties.{DemandView, duties_of}
+use Rattle.demands.specs.Duties.{DemandView, duties_of, lets}
 use Rattle.demands.specs.Good.{switches_of, HasGoodPath}
 use Rattle.config_check.specs.Broken.{IsMetUpTo, MissesAt}
 
@@ -37,27 +37,26 @@ split_at (y ∷ xs) zero x e = let f : Some y ≡ Some x = e in let g : y ≡ x 
 split_at (y ∷ xs) (suc i) x e = ap (λ zs. y ∷ zs) (split_at xs i x e)
 
 -- the first chain that isn't met
-pub misses_at : (chains : List (List SwitchId)) (switches chain : List SwitchId) (i : ℕ) (w : SwitchId) → slice_get chains i ≡ Some chain → AllByRecursion (λ c. IsSubsequence c switches) (take i chains)
-    → IsMetUpTo chain switches w → MissesAt chains switches w
+pub misses_at : (chains : List (List (List SwitchId))) (switches : List SwitchId) (chain : List (List SwitchId)) (i : ℕ) (w : SwitchId) → slice_get chains i ≡ Some chain
+    → AllByRecursion (λ c. MeetsInOrder c switches) (take i chains) → IsMetUpTo chain switches w → MissesAt chains switches w
 misses_at chains switches chain i w e earlier misses = record {
   earlier = take i chains;
-  front = misses.front;
-  back = misses.back;
+  chain = chain;
   later = drop (suc i) chains;
-  chains_are = split_at chains i chain e ∙ ap (λ (c : List SwitchId). take i chains ++ c ∷ drop (suc i) chains) misses.chain_is;
+  chains_are = split_at chains i chain e;
   earlier_met = earlier;
-  front_met = misses.front_met;
-  missed = misses.missed;
+  met_up_to = misses;
 }
 
 module _ (net : Network) (tables : List (List Rule)) (demands : List DemandView) (entry : Place) (dst : ℕ) (stops : List Stop) where
-  -- a packet that leaves and has met its chains has a good path
+  -- a packet that leaves at an exit and has met its chains has a good path
   pub good_left : (s : SwitchId) (port : Port) (vlan : Vlan) → EndsOnce net tables entry dst stops (end.Left s port vlan)
-      → AllByRecursion (λ chain. IsSubsequence chain (switches_of stops)) (duties_of demands entry dst).chains → HasGoodPath net tables demands entry dst
-  good_left s port vlan so met = record {
+      → IsTrue (lets (duties_of demands entry dst).exits (record { switch = s; port = port }))
+      → AllByRecursion (λ chain. MeetsInOrder chain (switches_of stops)) (duties_of demands entry dst).chains → HasGoodPath net tables demands entry dst
+  good_left s port vlan so at_exit met = record {
     trace = record { stops = stops; ended = end.Left s port vlan };
     path = so.path;
-    good = record { distinct = so.distinct; chains = met; arrives = λ _ dropped. dropped };
+    good = record { distinct = so.distinct; chains = met; exits = at_exit; arrives = λ _ dropped. dropped };
   }
 
 -- what holds holds if there is nothing

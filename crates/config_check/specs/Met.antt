@@ -1,7 +1,7 @@
 -- The path that met the chains of a class last.
 use Rattle.std.specs.Prelude.{ℕ, ◌<◌, List, Option, IfSome}
 use Rattle.std.specs.List.{AllByRecursion}
-use Rattle.net_base.specs.Members.{IsSubsequence}
+use Rattle.net_base.specs.Members.{MeetsInOrder}
 use Rattle.net_base.specs.declared.ids.Stop.{Stop}
 use Rattle.dest_classes.specs.Classes.{class_count}
 use Rattle.demands.specs.Duties.{ClassDuties}
@@ -15,7 +15,7 @@ pub record MetState : Type 0 where
 
 -- the stops meet each chain of class n
 abbrev pub MeetsChainsOf : ClassDuties → ℕ → List Stop → Type 0
-MeetsChainsOf duties n stops = OfClass duties n (λ d. AllByRecursion (λ chain. IsSubsequence chain (switches_of stops)) d.chains)
+MeetsChainsOf duties n stops = OfClass duties n (λ d. AllByRecursion (λ chain. MeetsInOrder chain (switches_of stops)) d.chains)
 
 -- where there is a class, it is one of these, and the stops meet each of its chains
 abbrev pub IsMetPath : ClassDuties → MetState → Type 0

@@ -1,7 +1,7 @@
 //! How the path of a class breaks its duties.
 ghost use Rattle.std.specs.Prelude.{◌≡◌, ◌<◌, length, IfSome, IfNone};
 ghost use Rattle.std.specs.List.{AllByRecursion};
-ghost use Rattle.net_base.specs.Members.{IsSubsequence};
+ghost use Rattle.net_base.specs.Members.{MeetsInOrder};
 ghost use Rattle.topology.specs.Networks.{switch_count};
 ghost use Rattle.flow_rules.specs.Tables.{rules_of_all};
 ghost use Rattle.dest_classes.specs.Classes.{class_count};
@@ -25,12 +25,12 @@ use topology::Net;
 /// From how many chains of a class on the path that met them is kept: keeping it takes less than testing few chains.
 const MANY_CHAINS: u32 = 4;
 
-/// The waypoint that the stops don't visit of the first chain of a class that they don't meet.
+/// The least switch of the item that the stops don't meet of the first chain of a class that they don't meet.
 fn missed(duties: &Duties, class: u32, stops: &[Stop]) -> Option<SwitchId>
     requires { class < class_count duties.now.classes }
     ensures none { IfNone result
         (OfClass duties.now class
-        (λ d. AllByRecursion (λ chain. IsSubsequence chain (switches_of stops.now)) d.chains)) }
+        (λ d. AllByRecursion (λ chain. MeetsInOrder chain (switches_of stops.now)) d.chains)) }
     ensures some { IfSome result
         (λ w. OfClass duties.now class (λ d. MissesAt d.chains (switches_of stops.now) w)) }
 {
@@ -48,7 +48,7 @@ fn first_missed(duties: &Duties, class: u32, stops: &[Stop], met: &mut MetPath) 
     requires kept { IsMetPath duties.now met.old }
     ensures none { IfNone result
         (OfClass duties.now class
-        (λ d. AllByRecursion (λ chain. IsSubsequence chain (switches_of stops.now)) d.chains)) }
+        (λ d. AllByRecursion (λ chain. MeetsInOrder chain (switches_of stops.now)) d.chains)) }
     ensures some { IfSome result
         (λ w. OfClass duties.now class (λ d. MissesAt d.chains (switches_of stops.now) w)) }
     ensures kept { IsMetPath duties.now met.new }
@@ -66,9 +66,10 @@ fn first_missed(duties: &Duties, class: u32, stops: &[Stop], met: &mut MetPath) 
     found
 }
 
-/// How the path of a class breaks its duties, where it does. The duties were made for the network, and the room for a network
-/// with as many switches. Takes time by the lengths of the path and of the class's chains; where these are many and the class
-/// judged before had the same demands and a path with the same stops, the chains are not tested again.
+/// How the path of a class breaks its duties, where it does; one that left is judged first by the exits of the class, then by
+/// its chains. The duties were made for the network, and the room for a network with as many switches. Takes time by the
+/// lengths of the path and of the class's chains; where these are many and the class judged before had the same demands and a
+/// path with the same stops, the chains are not tested again.
 pub fn how_broken(
     net: &Net,
     config: &Config,
@@ -101,7 +102,10 @@ pub fn how_broken(
                 None
             }
         }
-        PathEnd::Left(_, _) => {
+        PathEnd::Left(switch, port) => {
+            if !duties.lets(number, Stop { switch, port }) {
+                return Some(How::Leaked(switch));
+            }
             let missed = first_missed(duties, number, room.stops(), met)?;
             Some(How::Missed(missed))
         }

@@ -16,11 +16,16 @@ pub use ends::{EndBreak, first_end_break};
 pub use met::MetPath;
 use net_base::SwitchId;
 
-/// How a path breaks its duties: it visits a switch again, is dropped there and must arrive, or misses a waypoint.
+/// How a path breaks its duties.
 #[derive(Clone, Copy)]
 pub enum How {
+    /// It visits the switch again.
     Loop(SwitchId),
+    /// It is dropped at the switch, and must arrive.
     Dropped(SwitchId),
+    /// It leaves the network at the switch by a port that isn't one of its exits.
+    Leaked(SwitchId),
+    /// It leaves without having met an item of a chain in its place: the least switch of the item.
     Missed(SwitchId),
 }
 

@@ -149,8 +149,8 @@ module _ (net : Network) (tables : List (List Rule)) where
     so_far p trace ended kind f path good =
         let front : IsPrefix p.visits trace.stops = rw (f.visits_are, path.stops) (begins p.dst p.entry f.rest path.rest trace.ended f.walk path.walk path.ended path.ends) in
         elim kind [
-          | inl e ↦ rw e (record { distinct = distinct_prefix p.visits trace.stops front good.distinct; chains = tt; arrives = λ must dropped. dropped })
-          | inr e ↦ rw e (record { distinct = distinct_prefix p.visits trace.stops front good.distinct; chains = tt; arrives = λ must dropped. dropped })
+          | inl e ↦ rw e (record { distinct = distinct_prefix p.visits trace.stops front good.distinct; chains = tt; exits = tt; arrives = λ must dropped. dropped })
+          | inr e ↦ rw e (record { distinct = distinct_prefix p.visits trace.stops front good.distinct; chains = tt; exits = tt; arrives = λ must dropped. dropped })
         ]
 
     good_by : (p : Packet) (ended : Ended) → p.ended ≡ ended → EndedSo net tables p ended → Follows net tables p → HasGoodPath net tables demands p.entry p.dst → IsGood (duties_of demands p.entry p.dst) (trace_of p)

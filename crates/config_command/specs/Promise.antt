@@ -15,7 +15,8 @@ pub record ConfigPromise (files : Files) (names : ConfigNames) (old new : Option
   -- path.
   pub done : IsComplete result → ((result ≡ status.Done) ↔ FilesHold files names)
   -- Then every packet of every run over the configuration, in which nothing is changed, meets the demands: no packet visits a switch
-  -- twice, every packet that left has met its chains of waypoints in their order, and none that must arrive was dropped by a switch.
+  -- twice, every packet that left has left by one of its exits and has met its chains of waypoints in their order, and none that must
+  -- arrive was dropped by a switch.
   pub keeps : (m : ConfigMeaning) → FilesMean files names m → result ≡ status.Done → KeepsPacketsGood m.net m.tables m.demands
   -- Refused comes exactly where some class has no good path, and the line names the first of them and how its path breaks its duties.
   pub refusals : RefusalPromise (FilesMean files names) config_count Holds (λ m. IsBreaksLine m.net m.tables m.demands) old new result

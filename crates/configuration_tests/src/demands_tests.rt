@@ -1,7 +1,10 @@
 //! The reader, refusal by refusal, and the duties of a small network's classes.
+ghost use Rattle.std.specs.Prelude.{◌<◌};
+ghost use Rattle.dest_classes.specs.Classes.{class_count};
+
 use demands::{DemandFault, Demands, Duties, no_demands, read_demands};
 use dest_classes::class_map;
-use net_base::Field;
+use net_base::{Field, Port, Stop, SwitchId};
 use std::alloc::Global;
 use std::process::Abort;
 use topology::Net;
@@ -110,8 +113,8 @@ fn wide_net(rt: &impl Abort, alloc: Global) -> Net {
     read_net(alloc, WIDE.as_bytes()).expect(rt, "a wide network")
 }
 
-/// In a wide network `from` may be a list, whose references are checked in turn. Lists in `through`, and the members `to` and `deny`,
-/// aren't there yet.
+/// In a wide network `from` may be a list, items of `through` may be lists, and there may be `to` and `deny`. Each list is checked
+/// before its items, and these in turn.
 #[test]
 fn a_wide_network_refuses_the_first_damaged_member(rt: HostRuntime) {
     let net = wide_net(&rt, rt.alloc());
@@ -149,20 +152,84 @@ fn a_wide_network_refuses_the_first_damaged_member(rt: HostRuntime) {
             DemandFault::BadVlan(0),
         ),
         (
-            r#"{"demands":[{"dst":"10.0.0.0/8","through":[["a"]]}]}"#,
+            r#"{"demands":[{"dst":"10.0.0.0/8","through":[["a"],[]]}]}"#,
             DemandFault::Shape(Field::Through, 0),
         ),
         (
-            r#"{"demands":[{"dst":"10.0.0.0/8","to":[],"deliver":1}]}"#,
+            r#"{"demands":[{"dst":"10.0.0.0/8","through":[["a"],1]}]}"#,
+            DemandFault::Shape(Field::Through, 0),
+        ),
+        (
+            r#"{"demands":[{"dst":"10.0.0.0/8","through":[["a","b"],["a",1,"d"]]}]}"#,
+            DemandFault::Shape(Field::Through, 0),
+        ),
+        (
+            r#"{"demands":[{"dst":"10.0.0.0/8","through":[["a","d",1],[]]}]}"#,
+            DemandFault::UnknownSwitch(0),
+        ),
+        (
+            r#"{"demands":[{"dst":"10.0.0.0/8","through":["d",[]]}]}"#,
+            DemandFault::UnknownSwitch(0),
+        ),
+        (
+            r#"{"demands":[{"dst":"10.0.0.0/8","through":[[],"a","a","a","a","a","a","a","a","a","a","a","a","a","a","a","a"]}]}"#,
+            DemandFault::TooMany(Field::Through, 0),
+        ),
+        (
+            r#"{"demands":[{"dst":"10.0.0.0/8","through":[[]],"deliver":1}]}"#,
+            DemandFault::Shape(Field::Through, 0),
+        ),
+        (
+            r#"{"demands":[{"dst":"10.0.0.0/8","to":1,"deliver":1}]}"#,
             DemandFault::Shape(Field::Deliver, 0),
         ),
         (
-            r#"{"demands":[{"dst":"10.0.0.0/8"},{"dst":"10.0.0.0/8","deny":false,"to":["a:1"]}]}"#,
-            DemandFault::Shape(Field::To, 1),
+            r#"{"demands":[{"dst":"10.0.0.0/8","to":"a:1"}]}"#,
+            DemandFault::Shape(Field::To, 0),
         ),
         (
-            r#"{"demands":[{"dst":"10.0.0.0/8","deny":false}]}"#,
+            r#"{"demands":[{"dst":"10.0.0.0/8","to":["a:1",1,"d:1"]}]}"#,
+            DemandFault::Shape(Field::To, 0),
+        ),
+        (
+            r#"{"demands":[{"dst":"10.0.0.0/8","to":["any"]}]}"#,
+            DemandFault::Shape(Field::To, 0),
+        ),
+        (
+            r#"{"demands":[{"dst":"10.0.0.0/8","to":["d:1","a"]}]}"#,
+            DemandFault::UnknownSwitch(0),
+        ),
+        (
+            r#"{"demands":[{"dst":"10.0.0.0/8","to":["a:1","a:2",1]}]}"#,
+            DemandFault::NotHost(0),
+        ),
+        (
+            r#"{"demands":[{"dst":"10.0.0.0/8","to":["b:9"],"deny":1}]}"#,
+            DemandFault::NotHost(0),
+        ),
+        (
+            r#"{"demands":[{"dst":"10.0.0.0/8","to":[],"deny":1}]}"#,
             DemandFault::Shape(Field::Deny, 0),
+        ),
+        (
+            r#"{"demands":[{"dst":"10.0.0.0/8","deny":"true"}]}"#,
+            DemandFault::Shape(Field::Deny, 0),
+        ),
+        (
+            r#"{"demands":[{"dst":"10.0.0.0/8","deny":true,"deliver":true}]}"#,
+            DemandFault::BadDemand(0),
+        ),
+        (
+            r#"{"demands":[{"dst":"10.0.0.0/8","deny":true,"through":["a"]}]}"#,
+            DemandFault::BadDemand(0),
+        ),
+        (
+            r#"{"demands":[{"dst":"10.0.0.0/8","deny":true,"to":[]}]}"#,
+            DemandFault::BadDemand(0),
+        ),
+        (
+            r#"{"demands":[{"dst":"10.0.0.0/8"},{"dst":"10.0.0.0/8","deny":true,"to":["a:1"]}]}"#,
+            DemandFault::BadDemand(1),
         ),
     ] {
         let fault = read_demands(rt.alloc(), &net, text.as_bytes()).err();
@@ -170,44 +237,82 @@ fn a_wide_network_refuses_the_first_damaged_member(rt: HostRuntime) {
     }
 }
 
-/// A policy whose one demand names one port so many times.
-fn policy_with_list(rt: &impl Abort, alloc: Global, count: usize) -> String {
+/// A policy with one demand, in whose member a text stands so many times.
+fn policy_with_list(
+    rt: &impl Abort,
+    alloc: Global,
+    (start, item, end): (&str, &str, &str),
+    count: usize,
+) -> String {
     let mut text = String::new(alloc);
-    text.push_str(r#"{"demands":[{"dst":"10.0.0.0/8","from":["c:1""#)
+    text.push_str(r#"{"demands":[{"dst":"10.0.0.0/8","#)
         .expect(rt, "memory");
+    text.push_str(start).expect(rt, "memory");
+    text.push_str(item).expect(rt, "memory");
     for _ in 1..count {
-        text.push_str(r#","c:1""#).expect(rt, "memory");
+        text.push(',').expect(rt, "memory");
+        text.push_str(item).expect(rt, "memory");
     }
-    text.push_str("]}]}").expect(rt, "memory");
+    text.push_str(end).expect(rt, "memory");
+    text.push_str("}]}").expect(rt, "memory");
     text
 }
 
-/// A port may stand in a list more than once.
+/// A port or a switch may stand in a list more than once.
 #[test]
-fn a_list_has_at_most_1024_ports(rt: HostRuntime) {
+fn a_list_has_at_most_1024_items(rt: HostRuntime) {
     let net = wide_net(&rt, rt.alloc());
-    for (count, want) in [
-        (1024, None),
-        (1025, Some(DemandFault::TooMany(Field::From, 0))),
+    for (list, member) in [
+        ((r#""from":["#, r#""c:1""#, "]"), Field::From),
+        ((r#""to":["#, r#""c:1""#, "]"), Field::To),
+        ((r#""through":[["#, r#""c""#, "]]"), Field::Through),
     ] {
-        let text = policy_with_list(&rt, rt.alloc(), count);
-        let fault = read_demands(rt.alloc(), &net, text.as_bytes()).err();
-        assert_eq!(rt; fault, want, "with {count}");
+        for (count, want) in [(1024, None), (1025, Some(DemandFault::TooMany(member, 0)))] {
+            let text = policy_with_list(&rt, rt.alloc(), list, count);
+            let fault = read_demands(rt.alloc(), &net, text.as_bytes()).err();
+            assert_eq!(rt; fault, want, "with {count}");
+        }
+    }
+}
+
+/// A demand that denies may say that it asks for nothing else.
+#[test]
+fn a_demand_that_denies_asks_for_nothing_else(rt: HostRuntime) {
+    let net = wide_net(&rt, rt.alloc());
+    for text in [
+        r#"{"demands":[{"dst":"10.0.0.0/8","deny":true,"deliver":false,"through":[]}]}"#,
+        r#"{"demands":[{"dst":"10.0.0.0/8","deny":false,"deliver":true,"through":["a"],"to":[]}]}"#,
+    ] {
+        let demands = read_demands(rt.alloc(), &net, text.as_bytes()).expect(&rt, "demands");
+        assert!(rt; demands.count() == 1);
     }
 }
 
 #[test]
 fn a_narrow_network_has_no_lists_and_passes_over_what_it_does_not_name(rt: HostRuntime) {
-    refuses(
-        &rt,
-        rt.alloc(),
-        r#"{"demands":[{"from":["a:1"],"dst":"10.0.0.0/8"}]}"#,
-        DemandFault::Shape(Field::From, 0),
-    );
+    for (text, want) in [
+        (
+            r#"{"demands":[{"from":["a:1"],"dst":"10.0.0.0/8"}]}"#,
+            DemandFault::Shape(Field::From, 0),
+        ),
+        (
+            r#"{"demands":[{"dst":"10.0.0.0/8","through":[["a"]]}]}"#,
+            DemandFault::Shape(Field::Through, 0),
+        ),
+    ] {
+        refuses(&rt, rt.alloc(), text, want);
+    }
     let net = net_of(&rt, rt.alloc());
-    let text = r#"{"demands":[{"dst":"10.0.0.0/8","to":1,"deny":true}]}"#;
+    let text =
+        r#"{"demands":[{"dst":"0.0.0.0/0","to":1,"deny":true,"deliver":true,"through":["b"]}]}"#;
     let demands = read_demands(rt.alloc(), &net, text.as_bytes()).expect(&rt, "demands");
-    assert!(rt; demands.count() == 1);
+    let prefixes = demands.prefixes().expect(&rt, "prefixes");
+    let classes = class_map(rt.alloc(), &net, &prefixes).expect(&rt, "classes");
+    let duties = Duties::make(rt.alloc(), &net, &demands, &classes).expect(&rt, "duties");
+    for class in 0..classes.count() {
+        assert!(rt; !duties.has_exits(class));
+        assert!(rt; duties.must_arrive(class));
+    }
 }
 
 /// A wide network with six host ports.
@@ -253,6 +358,162 @@ fn a_list_covers_what_enters_at_its_ports(rt: HostRuntime) {
             );
         }
     }
+}
+
+/// The host ports of that network, in the order of its classes.
+const HOSTS: [(u32, u16); 6] = [(0, 1), (0, 2), (0, 3), (1, 1), (1, 2), (1, 3)];
+
+/// At which of the host ports the packets of a class may leave.
+fn exits_of(duties: &Duties, class: u32) -> [bool; 6]
+    requires { class < class_count duties.now.classes }
+{
+    let mut exits = [false; 6];
+    for (i, (switch, port)) in HOSTS.iter().enumerate() {
+        exits[i] = duties.lets(
+            class,
+            Stop {
+                switch: SwitchId(*switch),
+                port: Port(*port),
+            },
+        );
+    }
+    exits
+}
+
+/// The exits of a class are the ports that all demands on it let. A demand from any port covers no entry at its own exits; one
+/// that names ports covers these also where they are its exits.
+#[test]
+fn exits_are_the_ports_that_all_demands_let(rt: HostRuntime) {
+    let net = read_net(rt.alloc(), PORTS.as_bytes()).expect(&rt, "a wide network");
+    let all = [true; 6];
+    let none = [false; 6];
+    for (text, class, covered, exits) in [
+        (
+            r#"{"demands":[{"dst":"0.0.0.0/0","to":["a:1","b:2"]}]}"#,
+            1,
+            true,
+            [true, false, false, false, true, false],
+        ),
+        (
+            r#"{"demands":[{"dst":"0.0.0.0/0","to":["a:1","b:2"]}]}"#,
+            0,
+            false,
+            all,
+        ),
+        (
+            r#"{"demands":[{"from":"any","dst":"0.0.0.0/0","to":["a:1","b:2"]}]}"#,
+            4,
+            false,
+            all,
+        ),
+        (
+            r#"{"demands":[{"from":["a:1","a:2"],"dst":"0.0.0.0/0","to":["a:1"]}]}"#,
+            0,
+            true,
+            [true, false, false, false, false, false],
+        ),
+        (
+            r#"{"demands":[{"dst":"0.0.0.0/0","to":["a:1","a:2","b:2"]},{"dst":"0.0.0.0/0"},{"dst":"0.0.0.0/0","to":["b:3","b:2","a:2"]}]}"#,
+            3,
+            true,
+            [false, true, false, false, true, false],
+        ),
+        (
+            r#"{"demands":[{"from":"a:1","dst":"0.0.0.0/0","deny":true}]}"#,
+            0,
+            true,
+            none,
+        ),
+        (
+            r#"{"demands":[{"from":"a:1","dst":"0.0.0.0/0","deny":true}]}"#,
+            1,
+            false,
+            all,
+        ),
+        (
+            r#"{"demands":[{"dst":"0.0.0.0/0","deny":true},{"dst":"0.0.0.0/0","to":["a:1"]}]}"#,
+            5,
+            true,
+            none,
+        ),
+        (
+            r#"{"demands":[{"dst":"0.0.0.0/0","to":[]}]}"#,
+            2,
+            true,
+            none,
+        ),
+    ] {
+        let demands = read_demands(rt.alloc(), &net, text.as_bytes()).expect(&rt, "demands");
+        let prefixes = demands.prefixes().expect(&rt, "prefixes");
+        let classes = class_map(rt.alloc(), &net, &prefixes).expect(&rt, "classes");
+        let duties = Duties::make(rt.alloc(), &net, &demands, &classes).expect(&rt, "duties");
+        assert!(rt; class < classes.count());
+        assert!(rt;
+            demands.cover(classes.class(class)) == covered,
+            "at {class} in {text}"
+        );
+        assert_eq!(rt;
+            duties.has_exits(class),
+            exits != all,
+            "at {class} in {text}"
+        );
+        assert_eq!(rt; exits_of(&duties, class), exits, "at {class} in {text}");
+    }
+}
+
+/// A group is a set of switches, ascending. Of items of one switch, also of a list, that which stands first stays, and each larger
+/// one. Chains are compared item by item, as lists of numbers.
+#[test]
+fn chains_are_of_groups_and_ascend(rt: HostRuntime) {
+    let net = wide_net(&rt, rt.alloc());
+    for (text, chains) in [
+        (
+            r#"{"demands":[{"dst":"0.0.0.0/0","through":[["c","a","c"]]}]}"#,
+            "ac",
+        ),
+        (
+            r#"{"demands":[{"dst":"0.0.0.0/0","through":["b",["b","b"],["a","b"],"b",["b","a"],"a"]}]}"#,
+            "b>ab>ab>a",
+        ),
+        (
+            r#"{"demands":[{"dst":"0.0.0.0/0","through":["b"]},{"dst":"0.0.0.0/0","through":[["c","a"]]},{"dst":"0.0.0.0/0","through":["a","c"]},{"dst":"0.0.0.0/0","through":[["a","b"],"c"]},{"dst":"0.0.0.0/0","through":[["b","a"]]}]}"#,
+            "a>c|ab|ab>c|ac|b",
+        ),
+    ] {
+        let demands = read_demands(rt.alloc(), &net, text.as_bytes()).expect(&rt, "demands");
+        let prefixes = demands.prefixes().expect(&rt, "prefixes");
+        let classes = class_map(rt.alloc(), &net, &prefixes).expect(&rt, "classes");
+        let duties = Duties::make(rt.alloc(), &net, &demands, &classes).expect(&rt, "duties");
+        assert!(rt; classes.count() > 0);
+        let said = chains_of(&rt, rt.alloc(), &duties);
+        assert_eq!(rt; said.as_str(), chains, "in {text}");
+    }
+}
+
+/// The chains of class 0, each with its items, and of each item the letters of its switches.
+fn chains_of(rt: &impl Abort, alloc: Global, duties: &Duties) -> String
+    requires { 0 < class_count duties.now.classes }
+{
+    let mut text = String::new(alloc);
+    for i in 0..duties.chains(0) {
+        if i > 0 {
+            text.push('|').expect(rt, "memory");
+        }
+        for (k, item) in duties.chain(0, i).iter().enumerate() {
+            if k > 0 {
+                text.push('>').expect(rt, "memory");
+            }
+            for switch in item.list() {
+                text.push(match switch.0 {
+                    0 => 'a',
+                    1 => 'b',
+                    _ => 'c',
+                })
+                .expect(rt, "memory");
+            }
+        }
+    }
+    text
 }
 
 const POLICY: &str =

@@ -79,6 +79,7 @@ fn each_refusal_of_a_policy_has_its_words(rt: HostRuntime) {
             DemandFault::TooMany(Field::Through, 7),
             "7 TooMany through at 7",
         ),
+        (DemandFault::BadDemand(7), "10 BadDemand at 7"),
         (DemandFault::Memory, "0 Memory at 0"),
     ];
     for (fault, line) in rows {

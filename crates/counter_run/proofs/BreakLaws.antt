@@ -11,7 +11,7 @@ use Rattle.breaking_walks.specs.Breaking.{Breaks, BreaksBy, HasBreakingWalk, IsB
 module _ (u : Rollout) (k dst : ℕ) (entry : Place) (duties : PacketDuties) where
   by_breaks : (rest : List Place) (end : Option Outcome) → BreaksBy u k dst entry duties rest end → Breaks u k dst entry duties rest
   by_breaks rest None h = inl h
-  by_breaks rest (Some (Leave port vlan)) h = inr (inl (record { port = port; vlan = vlan; leaves = h.1.0; misses = h.1.1 }))
+  by_breaks rest (Some (Leave port vlan)) h = inr (inl (record { port = port; vlan = vlan; leaves = h.1.0; bad = h.1.1 }))
   by_breaks rest (Some Discard) h = inr (inr (h.1.1, h.1.0))
   by_breaks rest (Some (Go next)) h = absurd h
 

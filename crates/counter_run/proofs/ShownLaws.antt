@@ -2,7 +2,8 @@
 use Rattle.std.proofs.Common.{◌≡◌, ℕ, zero, suc, ◌<◌, ◌^◌, Bool, true, List, [], ◌∷◌, ◌++◌, map, length, replicate, take, refl, sym, ◌∙◌, subst, ap, inl, inr, arith}
 use Rattle.std.specs.Prelude.{slice_get, flat_map, Option, Some, None}
 use Rattle.std.specs.List.{AllByRecursion}
-use Rattle.net_base.specs.Members.{IsIn, IsDistinct, IsPrefix, IsSubsequence}
+use Rattle.std.proofs.lemmas.Bool.{both_ways}
+use Rattle.net_base.specs.Members.{IsIn, IsDistinct, IsPrefix, MeetsInOrder}
 use Rattle.net_base.specs.Places.{stop_of}
 use Rattle.net_base.specs.Walks.{end_of}
 use Rattle.net_base.proofs.MemberLaws.{each_at}
@@ -12,7 +13,7 @@ use Rattle.topology.specs.Networks.{IsEntry}
 use Rattle.path_walk.specs.declared.Outcome.{Outcome}
 use Rattle.path_walk.specs.declared.Outcome.TheVariants.{Discard, Leave, Go}
 use Rattle.dest_classes.specs.declared.Class.{Class}
-use Rattle.demands.specs.Duties.{DemandView, duties_of}
+use Rattle.demands.specs.Duties.{DemandView, duties_of, lets}
 use Rattle.demands.specs.Good.{switches_of}
 use Rattle.update_model.specs.Changes.{round_after}
 use Rattle.update_model.specs.Mixtures.{Rollout, tables_before, AreGoodRounds}
@@ -102,7 +103,7 @@ repeated place (next ∷ rest) (inr i) distinct = repeated next rest i distinct.
 -- a trace of a packet on its way is good where no switch stands twice
 good_on_way : (demands : List DemandView) (k : ℕ) (entry : Place) (dst : ℕ) (place : Place) (visits : List Stop) → IsDistinct (switches_of visits)
     → AllByRecursion (HasGoodTrace demands) (packet_under_way k entry dst place visits ∷ [])
-good_on_way demands k entry dst place visits distinct = (record { distinct = distinct; chains = tt; arrives = λ a d. d }, tt)
+good_on_way demands k entry dst place visits distinct = (record { distinct = distinct; chains = tt; exits = tt; arrives = λ a d. d }, tt)
 
 -- and that of the packet after a breaking walk is not
 bad_at_end : (u : Rollout) (demands : List DemandView) (k : ℕ) (entry : Place) (dst : ℕ) (rest : List Place) (end : Option Outcome)
@@ -110,9 +111,11 @@ bad_at_end : (u : Rollout) (demands : List DemandView) (k : ℕ) (entry : Place)
     → ¬ HasGoodTrace demands (ended_packet end (packet_under_way k entry dst (end_of entry rest) (map stop_of (entry ∷ rest))))
 bad_at_end u demands k entry dst rest None breaks good = repeated entry rest breaks (subst IsDistinct (along_stops (entry ∷ rest)) good.distinct)
 bad_at_end u demands k entry dst rest (Some (Leave port vlan)) breaks good =
-    let misses = breaks.1.1 in
-    misses.missed (subst (IsSubsequence misses.chain) (along_stops (entry ∷ rest))
-    (each_at (λ chain. IsSubsequence chain (switches_of (map stop_of (entry ∷ rest)))) (duties_of demands entry dst).chains misses.chain good.chains misses.asked))
+    elim breaks.1.1 [
+      | inl elsewhere ↦ both_ways (lets (duties_of demands entry dst).exits (record { switch = (end_of entry rest).switch; port = port })) elsewhere good.exits
+      | inr misses ↦ misses.missed (subst (MeetsInOrder misses.chain) (along_stops (entry ∷ rest))
+          (each_at (λ chain. MeetsInOrder chain (switches_of (map stop_of (entry ∷ rest)))) (duties_of demands entry dst).chains misses.chain good.chains misses.asked))
+    ]
 bad_at_end u demands k entry dst rest (Some Discard) breaks good = good.arrives breaks.1.1 tt
 bad_at_end u demands k entry dst rest (Some (Go next)) breaks good = breaks
 

@@ -1,41 +1,26 @@
 -- A trace is good for the duties of an entry and an address exactly where it meets the demands that cover them.
-use Rattle.std.proofs.Common.{◌≡◌, ℕ, Bool, true, false, cond, List, [], ◌∷◌, map, refl, sym, ◌∙◌, subst, ap, arith, inl, inr}
-use Rattle.std.specs.Prelude.{◌==◌, ◌||◌, nat_lt, IsTrue}
-use Rattle.std.specs.List.{AllByRecursion, list_any}
-use Rattle.std.proofs.lemmas.Bool.{cases_Bool, cond-true, cond-false, cond_both, or_left, eqb-true, eqb-false, eq-eqb, ne_eqb, ltb-false, false≢true}
-use Rattle.net_base.specs.Members.{IsIn, IsSubsequence}
+use Rattle.std.proofs.Common.{◌≡◌, ℕ, true, cond, List, [], ◌∷◌, map, refl, sym, subst, inl, inr}
+use Rattle.std.specs.Prelude.{IsTrue}
+use Rattle.std.specs.List.{AllByRecursion, filter_map}
+use Rattle.std.proofs.lemmas.Bool.{cases_Bool, cond-true, cond-false, cond_both, and_parts, and_from}
+use Rattle.net_base.specs.Members.{IsIn, MeetsInOrder}
 use Rattle.net_base.proofs.MemberLaws.{each_at, each_from_in, each_map, in_map, in_filter, in_from_filter}
-use Rattle.net_base.proofs.NameLaws.{same_switch}
+use Rattle.net_base.proofs.ListLaws.{any_in, in_from_any, in_filter_map, in_from_filter_map}
 use Rattle.net_base.specs.declared.ids.Place.{Place}
+use Rattle.net_base.specs.declared.ids.Stop.{Stop}
 use Rattle.net_base.specs.declared.ids.SwitchId.{SwitchId}
+use Rattle.topology.specs.Networks.{stop_eq}
+use Rattle.topology.proofs.LinkLaws.{stop_eq-true, stop_eq-refl}
 use Rattle.path_walk.specs.Paths.{Trace}
 use Rattle.path_walk.specs.declared.Ended.{Ended}
 use Rattle.path_walk.specs.declared.Ended.TheVariants.{UnderWay, Left, Dropped, Lost}
-use Rattle.demands.specs.Duties.{DemandView, demand_covers, demands_on, first_of_each, chain_lt, with_chain, ascending_chains, duties_of}
-use Rattle.demands.specs.Good.{IsGood, MeetsChains, IsDropped, MeetsDemands, switches_of}
-
--- chains of which neither comes before the other are one
-same_chain : (a b : List SwitchId) → chain_lt a b ≡ false → chain_lt b a ≡ false → a ≡ b
-same_chain [] [] e f = refl
-same_chain [] (t ∷ ts) e f = absurd (false≢true (sym e))
-same_chain (s ∷ ss) [] e f = absurd (false≢true (sym f))
-same_chain (s ∷ ss) (t ∷ ts) e f =
-    elim (cases_Bool (s.0 == t.0)) [
-      | inl same ↦ (
-          let here : s ≡ t = same_switch s t (eqb-true s.0 t.0 same) in
-          let turned : (t.0 == s.0) ≡ true = eq-eqb t.0 s.0 (sym (eqb-true s.0 t.0 same)) in
-          let rest = same_chain ss ts (sym (cond-true (s.0 == t.0) (chain_lt ss ts) (nat_lt s.0 t.0) same) ∙ e) (sym (cond-true (t.0 == s.0) (chain_lt ts ss) (nat_lt t.0 s.0) turned) ∙ f) in
-          ap (λ x. x ∷ ss) here ∙ ap (λ xs. t ∷ xs) rest)
-      | inr apart ↦ (
-          let turned : (t.0 == s.0) ≡ false = ne_eqb t.0 s.0 (λ g. eqb-false s.0 t.0 apart (sym g)) in
-          let not_less = ltb-false s.0 t.0 (sym (cond-false (s.0 == t.0) (chain_lt ss ts) (nat_lt s.0 t.0) apart) ∙ e) in
-          let not_more = ltb-false t.0 s.0 (sym (cond-false (t.0 == s.0) (chain_lt ts ss) (nat_lt t.0 s.0) turned) ∙ f) in
-          absurd (eqb-false s.0 t.0 apart (omega arith)))
-    ]
+use Rattle.demands.specs.Duties.{DemandView, is_listed, lets, demand_covers, demands_on, items_of_chain, chain_lt, with_chain, ascending_chains, duties_of}
+use Rattle.demands.specs.Good.{IsGood, MeetsChains, LeavesAtExit, IsDropped, MeetsDemands, switches_of}
+use Rattle.demands.proofs.ChainLaws.{same_chain}
 
 -- what holds of each of the ascending chains, and what holds of each chain
-module _ (P : List SwitchId → Type 0) where
-  each_put : (x : List SwitchId) (cs : List (List SwitchId)) → P x → AllByRecursion P cs → AllByRecursion P (with_chain x cs)
+module _ (P : List (List SwitchId) → Type 0) where
+  each_put : (x : List (List SwitchId)) (cs : List (List (List SwitchId))) → P x → AllByRecursion P cs → AllByRecursion P (with_chain x cs)
   each_put [] cs p all = all
   each_put (s ∷ ss) [] p all = (p, tt)
   each_put (s ∷ ss) (c ∷ cs) p all =
@@ -44,13 +29,13 @@ module _ (P : List SwitchId → Type 0) where
       (λ _. (p, all))
       (λ _. cond_both (chain_lt c x) (c ∷ with_chain x cs) (c ∷ cs) (AllByRecursion P) (λ _. (all.0, each_put (s ∷ ss) cs p all.1)) (λ _. all))
 
-  each_ascending : (cs : List (List SwitchId)) → AllByRecursion P cs → AllByRecursion P (ascending_chains cs)
+  each_ascending : (cs : List (List (List SwitchId))) → AllByRecursion P cs → AllByRecursion P (ascending_chains cs)
   each_ascending [] all = tt
   each_ascending (c ∷ cs) all = each_put c (ascending_chains cs) all.0 (each_ascending cs all.1)
 
   -- an empty chain is left out, so it must hold of that
   module _ (empty : P []) where
-    put_back : (x : List SwitchId) (cs : List (List SwitchId)) → AllByRecursion P (with_chain x cs) → P x × AllByRecursion P cs
+    put_back : (x : List (List SwitchId)) (cs : List (List (List SwitchId))) → AllByRecursion P (with_chain x cs) → P x × AllByRecursion P cs
     put_back [] cs all = (empty, all)
     put_back (s ∷ ss) [] all = (all.0, tt)
     put_back (s ∷ ss) (c ∷ cs) all =
@@ -70,32 +55,30 @@ module _ (P : List SwitchId → Type 0) where
               ])
         ]
 
-    each_back : (cs : List (List SwitchId)) → AllByRecursion P (ascending_chains cs) → AllByRecursion P cs
+    each_back : (cs : List (List (List SwitchId))) → AllByRecursion P (ascending_chains cs) → AllByRecursion P cs
     each_back [] all = tt
     each_back (c ∷ cs) all = let back = put_back c (ascending_chains cs) all in (back.0, each_back cs back.1)
 
--- some member passes a test
-module _ {A : Type 0} (p : A → Bool) where
-  any_from : (x : A) (xs : List A) → IsIn x xs → p x ≡ true → list_any p xs ≡ true
-  any_from x [] i e = absurd i
-  any_from x (y ∷ xs) (inl same) e = or_left (p y) (list_any p xs) (subst (λ z. p z ≡ true) same e)
-  any_from x (y ∷ xs) (inr i) e = elim (p y) as (λ b. (b || list_any p xs) ≡ true) [ true ↦ refl | false ↦ any_from x xs i e ]
+-- each list has the port
+each_lets : (lists : List (List Stop)) (stop : Stop) (stops : List Stop) → lets lists stop ≡ true → IsIn stops lists → IsIn stop stops
+each_lets [] stop stops all i = absurd i
+each_lets (first ∷ lists) stop stops all (inr i) = each_lets lists stop stops (and_parts (is_listed first stop) (lets lists stop) all).1 i
+each_lets (first ∷ lists) stop stops all (inl same) =
+    let (found, i, e) = in_from_any (λ s. stop_eq s stop) first (and_parts (is_listed first stop) (lets lists stop) all).0 in
+    subst (λ xs. IsIn stop xs) (sym same) (subst (λ (s : Stop). IsIn s first) (stop_eq-true found stop e) i)
 
-  any_to : (xs : List A) → list_any p xs ≡ true → (x : A) × IsIn x xs × (p x ≡ true)
-  any_to [] e = absurd (false≢true e)
-  any_to (y ∷ xs) e =
-      elim (p y) as (λ b. p y ≡ b → (b || list_any p xs) ≡ true → (x : A) × IsIn x (y ∷ xs) × (p x ≡ true)) [
-        | true ↦ λ passes _. (y, inl refl, passes)
-        | false ↦ λ _ f. let (x, i, passes) = any_to xs f in (x, inr i, passes)
-      ] refl e
+all_let : (lists : List (List Stop)) (stop : Stop) → ((stops : List Stop) → IsIn stops lists → IsIn stop stops) → lets lists stop ≡ true
+all_let [] stop each = refl
+all_let (first ∷ lists) stop each =
+    and_from (is_listed first stop) (lets lists stop) (any_in (λ s. stop_eq s stop) stop first (each first (inl refl)) (stop_eq-refl stop)) (all_let lists stop (λ stops i. each stops (inr i)))
 
 module _ (demands : List DemandView) (entry : Place) (dst : ℕ) (trace : Trace) where
   -- the chain is met
-  abbrev IsMet : List SwitchId → Type 0
-  IsMet chain = IsSubsequence chain (switches_of trace.stops)
+  abbrev IsMet : List (List SwitchId) → Type 0
+  IsMet chain = MeetsInOrder chain (switches_of trace.stops)
 
-  abbrev chain_of : DemandView → List SwitchId
-  chain_of d = first_of_each d.through
+  abbrev chain_of : DemandView → List (List SwitchId)
+  chain_of d = items_of_chain d.through
 
   on_it : (d : DemandView) → IsIn d demands → IsTrue (demand_covers d entry dst) → IsIn d (demands_on demands entry dst)
   on_it d i covers = in_filter (λ x. demand_covers x entry dst) d demands i covers
@@ -109,7 +92,11 @@ module _ (demands : List DemandView) (entry : Place) (dst : ℕ) (trace : Trace)
     chains = λ d i covers s port vlan left.
         let met : AllByRecursion IsMet (duties_of demands entry dst).chains = subst (MeetsChains (duties_of demands entry dst).chains (switches_of trace.stops)) left good.chains in
         each_at IsMet (map chain_of (demands_on demands entry dst)) (chain_of d) (each_back IsMet tt (map chain_of (demands_on demands entry dst)) met) (in_map chain_of d (demands_on demands entry dst) (on_it d i covers));
-    arrives = λ d i covers deliver s dropped. good.arrives (any_from (λ x. x.deliver) d (demands_on demands entry dst) (on_it d i covers) deliver) (subst IsDropped (sym dropped) tt);
+    exits = λ d i covers stops has s port vlan left.
+        let stop : Stop = record { switch = s; port = port } in
+        let lists = filter_map (λ (x : DemandView). x.exits) (demands_on demands entry dst) in
+        each_lets lists stop stops (subst (LeavesAtExit lists) left good.exits) (in_filter_map (λ (x : DemandView). x.exits) d stops (demands_on demands entry dst) (on_it d i covers) has);
+    arrives = λ d i covers deliver s dropped. good.arrives (any_in (λ x. x.deliver) d (demands_on demands entry dst) (on_it d i covers) deliver) (subst IsDropped (sym dropped) tt);
   }
 
   module _ (meets : MeetsDemands demands entry dst trace) where
@@ -122,14 +109,25 @@ module _ (demands : List DemandView) (entry : Place) (dst : ℕ) (trace : Trace)
         (each_map chain_of IsMet (demands_on demands entry dst)
         (each_from_in (λ d. IsMet (chain_of d)) (demands_on demands entry dst) (λ d i. let from = from_on d i in meets.chains d from.0 from.1 s port vlan is)))
 
+    meets_exits : (ended : Ended) → trace.ended ≡ ended → LeavesAtExit (duties_of demands entry dst).exits ended
+    meets_exits UnderWay is = tt
+    meets_exits Lost is = tt
+    meets_exits (Dropped s) is = tt
+    meets_exits (Left s port vlan) is =
+        let stop : Stop = record { switch = s; port = port } in
+        all_let (filter_map (λ (x : DemandView). x.exits) (demands_on demands entry dst)) stop (λ stops among.
+        let (d, i, has) = in_from_filter_map (λ (x : DemandView). x.exits) stops (demands_on demands entry dst) among in
+        let from = from_on d i in
+        meets.exits d from.0 from.1 stops has s port vlan is)
+
     meets_arrival : (ended : Ended) → trace.ended ≡ ended → IsTrue (duties_of demands entry dst).arrive → ¬ IsDropped ended
     meets_arrival UnderWay is must = λ h. h
     meets_arrival Lost is must = λ h. h
     meets_arrival (Left s port vlan) is must = λ h. h
     meets_arrival (Dropped s) is must = λ _.
-        let (d, i, deliver) = any_to (λ x. x.deliver) (demands_on demands entry dst) must in
+        let (d, i, deliver) = in_from_any (λ x. x.deliver) (demands_on demands entry dst) must in
         let from = from_on d i in
         meets.arrives d from.0 from.1 deliver s is
 
     pub meets_good : IsGood (duties_of demands entry dst) trace
-    meets_good = record { distinct = meets.distinct; chains = meets_chains trace.ended refl; arrives = meets_arrival trace.ended refl }
+    meets_good = record { distinct = meets.distinct; chains = meets_chains trace.ended refl; exits = meets_exits trace.ended refl; arrives = meets_arrival trace.ended refl }

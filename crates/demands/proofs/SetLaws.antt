@@ -1,15 +1,14 @@
 -- Sets of demands: what is in them while they are made, what is in both of two, and the duties that they stand for.
-use Rattle.std.proofs.Common.{◌≡◌, ◌≢◌, ◌⊎◌, ◌↔◌, ℕ, zero, suc, ◌+◌, ◌/◌, ◌%◌, ◌<◌, ◌≤◌, ◌&&◌, Bool, true, false, cond, List, [], ◌∷◌, map, length, min, get_or, refl, sym, ◌∙◌, ap, arith, inl, inr}
+use Rattle.std.proofs.Common.{◌≡◌, ◌≢◌, ◌⊎◌, ◌↔◌, ℕ, zero, suc, ◌+◌, ◌/◌, ◌%◌, ◌<◌, ◌≤◌, ◌&&◌, Bool, true, false, cond, List, [], ◌∷◌, length, min, get_or, refl, sym, ◌∙◌, ap, arith, inl, inr}
 use Rattle.std.specs.Prelude.{◌==◌, nat_lt, slice_index_or, bit_and}
 use Rattle.std.specs.Int.{bit_at}
-use Rattle.std.specs.List.{list_any}
 use Rattle.std.specs.Option.{option_map_or}
 use Rattle.std.proofs.lemmas.Bool.{cases_Bool, cases_eq, cases_lt, lt-ltb, le-ltb, false≢true}
 use Rattle.std.proofs.lemmas.Nat.Bits.{bit_at_and, bit_at-lt}
 use Rattle.std.proofs.lemmas.Option.{slice_get_past, slice_get_read}
 use Rattle.net_base.specs.Blocks.{in_block}
 use Rattle.net_base.specs.declared.ids.Place.{Place}
-use Rattle.demands.specs.Duties.{DemandView, PacketDuties, first_of_each, ascending_chains, duties_of, demands_on, demand_covers}
+use Rattle.demands.specs.Duties.{DemandView, duties_of, duties_for, demands_on, demand_covers}
 use Rattle.demands.specs.Sets.{is_in, passes, IsSetBelow, IsSetOf, speaks_of_entry, members_from, duties_by}
 
 -- a bit is in both words
@@ -114,6 +113,4 @@ module _ (entry : Place) (dst : ℕ) where
   -- the duties of an entry and an address are those of the set of the demands that cover it
   pub duties_by_set : (demands : List DemandView) (words : List ℕ) → length demands ≤ 512 → IsSetOf demands (λ d. demand_covers d entry dst) words
       → duties_by demands words ≡ duties_of demands entry dst
-  duties_by_set demands words few set =
-      ap (λ (ds : List DemandView). let x : PacketDuties = record { chains = ascending_chains (map (λ d. first_of_each d.through) ds); arrive = list_any (λ d. d.deliver) ds } in x)
-      (members_are demands 0 words (λ i lt. ap (is_in words) (omega arith) ∙ set i (omega arith)))
+  duties_by_set demands words few set = ap duties_for (members_are demands 0 words (λ i lt. ap (is_in words) (omega arith) ∙ set i (omega arith)))

@@ -4,7 +4,7 @@ use Rattle.net_base.specs.declared.field.Field.{Field}
 use Rattle.flat_json.specs.declared.fault.JsonFault.{JsonFault}
 use Rattle.flat_json.specs.declared.fault.JsonFault.TheVariants as json
 use Rattle.demands.specs.declared.fault.DemandFault.{DemandFault}
-use Rattle.demands.specs.declared.fault.DemandFault.TheVariants.{NotJson, Shape, UnknownSwitch, NotHost, BadVlan, BadPrefix, TooMany, Memory}
+use Rattle.demands.specs.declared.fault.DemandFault.TheVariants.{NotJson, Shape, UnknownSwitch, NotHost, BadVlan, BadPrefix, TooMany, BadDemand, Memory}
 
 -- how the faults of the tree are told
 abbrev pub of_json : JsonFault → DemandFault
@@ -20,6 +20,7 @@ fault_number (NotHost place) = 4
 fault_number (BadVlan place) = 5
 fault_number (BadPrefix place) = 6
 fault_number (TooMany member place) = 7
+fault_number (BadDemand place) = 10
 fault_number Memory = 0
 
 -- the printed word
@@ -31,6 +32,7 @@ fault_name (NotHost place) = codes "NotHost"
 fault_name (BadVlan place) = codes "BadVlan"
 fault_name (BadPrefix place) = codes "BadPrefix"
 fault_name (TooMany member place) = codes "TooMany"
+fault_name (BadDemand place) = codes "BadDemand"
 fault_name Memory = codes "Memory"
 
 -- the member that is named beside it
@@ -48,4 +50,5 @@ fault_place (NotHost place) = place
 fault_place (BadVlan place) = place
 fault_place (BadPrefix place) = place
 fault_place (TooMany member place) = place
+fault_place (BadDemand place) = place
 fault_place Memory = 0

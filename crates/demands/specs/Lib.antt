@@ -4,6 +4,6 @@ pub mod Ranges
 pub mod Faults
 pub mod Policy
 pub mod Chains
+pub mod Kept
 pub mod OfClass
-pub mod Covers
 pub mod Sets

@@ -1,11 +1,12 @@
 -- The duties of a class, and that they are those of each of its addresses.
-use Rattle.std.specs.Prelude.{◌≡◌, ℕ, List, length, slice_get, Some}
+use Rattle.std.specs.Prelude.{◌≡◌, ℕ, List, length, map, slice_get, Some}
 use Rattle.std.specs.List.{AllByRecursion}
 use Rattle.net_base.specs.Blocks.{IsSameClass}
 use Rattle.net_base.specs.Members.{IsIn}
 use Rattle.dest_classes.specs.Classes.{ClassList, IsClass, class_count}
 use Rattle.dest_classes.specs.declared.Class.{Class}
 use Rattle.demands.specs.Duties.{DemandView, PacketDuties, ClassDuties, duties_of}
+use Rattle.demands.specs.Kept.{KeptDuties, kept_duties}
 
 -- the prefix of each demand is one of the map's
 abbrev pub AreCovered : List DemandView → ClassList → Type 0
@@ -34,8 +35,14 @@ abbrev pub AreInOrder : List DemandView → ClassList → List PacketDuties → 
 AreInOrder demands classes rows numbers =
     (n : ℕ) (class : Class) → IsClass classes n class → HasRow rows numbers n (duties_of demands class.entry class.first)
 
--- what stored duties keep
-pub record AreStored (demands : List DemandView) (classes : ClassList) (rows : List PacketDuties) (numbers : List ℕ) : Type 0 where
-  pub covered : AreCovered demands classes
+-- rows of what is kept of duties: each class has the number of one with its duties, in the order of the classes
+pub record AreDutyRows (demands : List DemandView) (classes : ClassList) (rows : List KeptDuties) (numbers : List ℕ) : Type 0 where
+  pub duties : List PacketDuties
+  pub rows_are : rows ≡ map kept_duties duties
   pub count : length numbers ≡ class_count classes
-  pub in_order : AreInOrder demands classes rows numbers
+  pub in_order : AreInOrder demands classes duties numbers
+
+-- what stored duties keep
+pub record AreStored (demands : List DemandView) (classes : ClassList) (rows : List KeptDuties) (numbers : List ℕ) : Type 0 where
+  pub covered : AreCovered demands classes
+  pub stored : AreDutyRows demands classes rows numbers

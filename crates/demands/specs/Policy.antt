@@ -1,5 +1,5 @@
 -- The reading of a policy, by the table of its members.
-use Rattle.std.specs.Prelude.{ℕ, ◌&&◌, List, [], ◌∷◌, ◌++◌, length, Bool, false, not, nat_lt, nat_le, Option, None, Some, is_some, option_and_then, option_map, Result, Ok, codes, if◌then◌else◌, ⊤}
+use Rattle.std.specs.Prelude.{ℕ, ◌&&◌, ◌||◌, List, [], ◌∷◌, ◌++◌, length, Bool, false, not, nat_lt, nat_le, Option, None, Some, is_some, option_and_then, option_map, Result, Ok, codes, if◌then◌else◌}
 use Rattle.std.specs.List.{list_any}
 use Rattle.std.specs.Option.{option_or}
 use Rattle.std.specs.Str.{bytes_eq}
@@ -8,6 +8,8 @@ use Rattle.serde_json.specs.Find.{get, as_str, as_bool}
 use Rattle.net_base.specs.Blocks.{Block}
 use Rattle.net_base.specs.declared.ids.SwitchId.{SwitchId}
 use Rattle.net_base.specs.declared.ids.Stop.{Stop}
+use Rattle.net_base.specs.Groups.{ascending_switches}
+use Rattle.net_base.specs.declared.field.Field.{Field}
 use Rattle.net_base.specs.declared.field.Field.TheVariants.{Top, Demands, From, Vlan, Dst, Through, Deliver, To, Deny}
 use Rattle.net_base.specs.Reading.{◌>>=◌, check, need, in_turn}
 use Rattle.net_base.specs.Text.{prefix_in}
@@ -20,7 +22,7 @@ use Rattle.demands.specs.declared.Cover.{Cover}
 use Rattle.demands.specs.declared.read.TestWord.{TestWord}
 use Rattle.demands.specs.declared.read.TestWord.TheVariants as word
 use Rattle.demands.specs.declared.fault.DemandFault.{DemandFault}
-use Rattle.demands.specs.declared.fault.DemandFault.TheVariants.{NotJson, Shape, UnknownSwitch, NotHost, BadVlan, BadPrefix, TooMany}
+use Rattle.demands.specs.declared.fault.DemandFault.TheVariants.{NotJson, Shape, UnknownSwitch, NotHost, BadVlan, BadPrefix, TooMany, BadDemand}
 use Rattle.demands.specs.Duties.{DemandView}
 
 -- ---- from
@@ -32,27 +34,31 @@ host_with net switch number =
     then Some (record { switch = record { 0 = switch }; port = record { 0 = number } })
     else None
 
--- a port reference to a host port
-unfoldable pub host_in : Network → ℕ → List ℕ → Result Stop DemandFault
-host_in net place text = do
-  parts ← need (reference_parts text) (Shape From place)
+-- a port reference to a host port; the member is named in a refusal
+unfoldable pub host_in : Network → Field → ℕ → List ℕ → Result Stop DemandFault
+host_in net member place text = do
+  parts ← need (reference_parts text) (Shape member place)
   switch ← need (switch_named net.names parts.0) (UnknownSwitch place)
   need (host_with net switch parts.1) (NotHost place)
 
--- `any`, or a host port
-unfoldable pub source_in : Network → ℕ → List ℕ → Result (Option (List Stop)) DemandFault
-source_in net place text = if bytes_eq text (codes "any") then Ok None else (host_in net place text >>= λ stop. Ok (Some (stop ∷ [])))
-
 -- a host port behind these, where it isn't among them
-abbrev pub with_source : List Stop → Stop → List Stop
-with_source before stop = if list_any (stop_eq stop) before then before else before ++ stop ∷ []
+abbrev pub with_port : List Stop → Stop → List Stop
+with_port before stop = if list_any (stop_eq stop) before then before else before ++ stop ∷ []
 
 -- one item of a list of port references, after these host ports
-unfoldable pub source_at : Network → ℕ → List Stop → Data → Result (List Stop) DemandFault
-source_at net place before d = do
-  text ← need (as_str d) (Shape From place)
-  stop ← host_in net place text
-  Ok (with_source before stop)
+unfoldable pub port_at : Network → Field → ℕ → List Stop → Data → Result (List Stop) DemandFault
+port_at net member place before d = do
+  text ← need (as_str d) (Shape member place)
+  stop ← host_in net member place text
+  Ok (with_port before stop)
+
+-- the items of a list of port references, one after the other
+unfoldable pub listed_ports_in : Network → Field → ℕ → List Data → Result (List Stop) DemandFault
+listed_ports_in net member place items = in_turn (λ i. port_at net member place) 0 [] items
+
+-- `any`, or a host port
+unfoldable pub source_in : Network → ℕ → List ℕ → Result (Option (List Stop)) DemandFault
+source_in net place text = if bytes_eq text (codes "any") then Ok None else (host_in net From place text >>= λ stop. Ok (Some (stop ∷ [])))
 
 -- in a wide network, a list of at least one and at most 1,024 port references
 unfoldable pub listed_in : Network → ℕ → Data → Result (List Stop) DemandFault
@@ -61,7 +67,7 @@ listed_in net place d = do
   items ← need (list_in d) (Shape From place)
   _ ← check (nat_lt 0 (length items)) (Shape From place)
   _ ← check (nat_le (length items) 1024) (TooMany From place)
-  in_turn (λ i. source_at net place) 0 [] items
+  listed_ports_in net From place items
 
 -- the value of `from`, which may be this text
 abbrev pub sources_in : Network → ℕ → Data → Option (List ℕ) → Result (Option (List Stop)) DemandFault
@@ -96,22 +102,55 @@ test_in place (Some d) = need (test_word d) (Shape Vlan place) >>= λ w. need (t
 
 -- ---- through
 
--- one name of `through`, after these switches
+-- the switch of this name
+unfoldable pub waypoint_in : Network → ℕ → List ℕ → Result SwitchId DemandFault
+waypoint_in net place name = need (switch_named net.names name) (UnknownSwitch place) >>= λ switch. Ok (record { 0 = switch })
+
+-- one name of a group, after these switches
 unfoldable pub waypoint_at : Network → ℕ → List SwitchId → Data → Result (List SwitchId) DemandFault
 waypoint_at net place before d = do
   name ← need (as_str d) (Shape Through place)
-  switch ← need (switch_named net.names name) (UnknownSwitch place)
-  Ok (before ++ record { 0 = switch } ∷ [])
+  switch ← waypoint_in net place name
+  Ok (before ++ switch ∷ [])
 
--- a list of at most 16 names of switches
-unfoldable pub waypoints_in : Network → ℕ → Data → Result (List SwitchId) DemandFault
+-- the names of a group, one after the other
+unfoldable pub names_in : Network → ℕ → List Data → Result (List SwitchId) DemandFault
+names_in net place names = in_turn (λ i. waypoint_at net place) 0 [] names
+
+-- in a wide network, a list of at least one and at most 1,024 names: any of these switches
+unfoldable pub group_in : Network → ℕ → Data → Result (List SwitchId) DemandFault
+group_in net place d = do
+  _ ← check net.wide (Shape Through place)
+  names ← need (list_in d) (Shape Through place)
+  _ ← check (nat_lt 0 (length names)) (Shape Through place)
+  _ ← check (nat_le (length names) 1024) (TooMany Through place)
+  switches ← names_in net place names
+  Ok (ascending_switches switches)
+
+-- an item that is the name of a switch
+unfoldable pub single_in : Network → ℕ → List ℕ → Result (List SwitchId) DemandFault
+single_in net place name = waypoint_in net place name >>= λ switch. Ok (switch ∷ [])
+
+-- an item of `through`, which may be this text
+abbrev pub item_in : Network → ℕ → Data → Option (List ℕ) → Result (List SwitchId) DemandFault
+item_in net place d (Some name) = single_in net place name
+item_in net place d None = group_in net place d
+
+-- one item of `through`, after these
+unfoldable pub item_at : Network → ℕ → List (List SwitchId) → Data → Result (List (List SwitchId)) DemandFault
+item_at net place before d = do
+  item ← item_in net place d (as_str d)
+  Ok (before ++ item ∷ [])
+
+-- a list of at most 16 items
+unfoldable pub waypoints_in : Network → ℕ → Data → Result (List (List SwitchId)) DemandFault
 waypoints_in net place d = do
   items ← need (list_in d) (Shape Through place)
   _ ← check (nat_le (length items) 16) (TooMany Through place)
-  in_turn (λ i. waypoint_at net place) 0 [] items
+  in_turn (λ i. item_at net place) 0 [] items
 
 -- the member `through`, no waypoints where it is absent
-unfoldable pub through_in : Network → ℕ → Option Data → Result (List SwitchId) DemandFault
+unfoldable pub through_in : Network → ℕ → Option Data → Result (List (List SwitchId)) DemandFault
 through_in net place None = Ok []
 through_in net place (Some d) = waypoints_in net place d
 
@@ -124,11 +163,34 @@ deliver_in place (Some d) = need (as_bool d) (Shape Deliver place)
 
 -- ---- to, deny
 
--- in a wide network `to` and `deny` have a meaning that this version doesn't know, and must be absent
-unfoldable pub unknown_in : Network → ℕ → Data → Result ⊤ DemandFault
-unknown_in net place d = do
-  _ ← check (not (net.wide && is_some (get (codes "to") d))) (Shape To place)
-  check (not (net.wide && is_some (get (codes "deny") d))) (Shape Deny place)
+-- a list of at most 1,024 port references
+unfoldable pub exits_listed : Network → ℕ → Data → Result (List Stop) DemandFault
+exits_listed net place d = do
+  items ← need (list_in d) (Shape To place)
+  _ ← check (nat_le (length items) 1024) (TooMany To place)
+  listed_ports_in net To place items
+
+-- the member `to`, no list where it is absent
+unfoldable pub to_in : Network → ℕ → Option Data → Result (Option (List Stop)) DemandFault
+to_in net place None = Ok None
+to_in net place (Some d) = exits_listed net place d >>= λ stops. Ok (Some stops)
+
+-- the member `deny`, false where it is absent
+unfoldable pub deny_in : ℕ → Option Data → Result Bool DemandFault
+deny_in place None = Ok false
+deny_in place (Some d) = need (as_bool d) (Shape Deny place)
+
+-- the exits of a demand that asks for something else, or doesn't: a demand that denies lets packets leave at no port, and can't say anything else
+unfoldable pub let_in : Network → ℕ → Bool → Data → Result (Option (List Stop)) DemandFault
+let_in net place asks d = do
+  to ← to_in net place (get (codes "to") d)
+  deny ← deny_in place (get (codes "deny") d)
+  _ ← check (not (deny && (asks || is_some to))) (BadDemand place)
+  Ok (if deny then Some [] else to)
+
+-- the exits of a demand: a narrow network has no such members
+unfoldable pub exits_in : Network → ℕ → Bool → Data → Result (Option (List Stop)) DemandFault
+exits_in net place asks d = if net.wide then let_in net place asks d else Ok None
 
 -- ---- a demand
 
@@ -152,8 +214,8 @@ demand_in net place d = do
   cover ← cover_in net place d
   through ← through_in net place (get (codes "through") d)
   deliver ← deliver_in place (get (codes "deliver") d)
-  _ ← unknown_in net place d
-  Ok (record { from = cover.from; vlan = cover.vlan; dst = cover.dst; through = through; deliver = deliver })
+  exits ← exits_in net place (deliver || nat_lt 0 (length through)) d
+  Ok (record { from = cover.from; vlan = cover.vlan; dst = cover.dst; through = through; deliver = deliver; exits = exits })
 
 -- ---- the file
 

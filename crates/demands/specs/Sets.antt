@@ -1,7 +1,6 @@
 -- Sets of the demands of a policy, by a bit for each demand.
-use Rattle.std.specs.Prelude.{◌≡◌, ℕ, suc, ◌<◌, ◌==◌, ◌/◌, ◌%◌, ◌&&◌, Bool, false, cond, List, [], ◌∷◌, map, slice_get, slice_index_or, nat_lt}
+use Rattle.std.specs.Prelude.{◌≡◌, ℕ, suc, ◌<◌, ◌==◌, ◌/◌, ◌%◌, ◌&&◌, Bool, false, cond, List, [], ◌∷◌, slice_get, slice_index_or, nat_lt}
 use Rattle.std.specs.Int.{bit_at}
-use Rattle.std.specs.List.{list_any}
 use Rattle.std.specs.Option.{option_map_or}
 use Rattle.net_base.specs.Blocks.{in_block}
 use Rattle.net_base.specs.declared.ids.Place.{Place}
@@ -9,7 +8,7 @@ use Rattle.flow_rules.specs.Patterns.{admits_vlan}
 use Rattle.dest_classes.specs.Classes.{ClassList, IsClass, atom_count}
 use Rattle.dest_classes.specs.declared.Class.{Class}
 use Rattle.demands.specs.declared.sets.DemandSet.{DemandSet}
-use Rattle.demands.specs.Duties.{DemandView, PacketDuties, admits_entry, first_of_each, ascending_chains}
+use Rattle.demands.specs.Duties.{DemandView, PacketDuties, admits_entry, duties_for}
 
 -- whether the demand with this number is in the set: 64 to a word
 abbrev pub is_in : List ℕ → ℕ → Bool
@@ -29,7 +28,7 @@ IsSetOf demands test words = (n : ℕ) → n < 512 → is_in words n ≡ passes 
 
 -- whether a demand speaks of packets that enter there
 abbrev pub speaks_of_entry : DemandView → Place → Bool
-speaks_of_entry d entry = admits_entry d.from entry && admits_vlan d.vlan entry.vlan
+speaks_of_entry d entry = admits_entry d.from d.exits entry && admits_vlan d.vlan entry.vlan
 
 -- the set of an atom
 abbrev pub set_at : List DemandSet → ℕ → List ℕ
@@ -54,7 +53,4 @@ members_from n (d ∷ demands) words = cond (is_in words n) (d ∷ members_from 
 
 -- the duties that the demands of a set ask for
 abbrev pub duties_by : List DemandView → List ℕ → PacketDuties
-duties_by demands words = record {
-  chains = ascending_chains (map (λ d. first_of_each d.through) (members_from 0 demands words));
-  arrive = list_any (λ d. d.deliver) (members_from 0 demands words);
-}
+duties_by demands words = duties_for (members_from 0 demands words)

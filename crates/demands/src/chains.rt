@@ -1,35 +1,63 @@
 //! Chains of waypoints, and their order.
 ghost use Rattle.std.specs.Prelude.{◌≡◌, ◌<◌, ◌≤◌, ◌==◌, ◌∷◌, ◌≢◌, [], length, slice_get, slice_index_or, IfOk, OnOk};
 ghost use Rattle.std.specs.List.{list_any};
-ghost use Rattle.demands.specs.Duties.{first_of_each, chain_lt, with_chain};
+ghost use Rattle.demands.specs.Duties.{is_repeat, items_of_chain, group_lt, chain_lt, with_chain};
 ghost use Rattle.demands.specs.Chains.{leading_count};
 
 use crate::Chain;
-use net_base::{Memory, SwitchId};
+use net_base::{Memory, SwitchGroup, SwitchId};
 use std::alloc::Global;
 
-/// Whether the switch stands in the list.
-fn stands_in(switches: &[SwitchId], switch: SwitchId) -> bool
-    ensures { result ≡ list_any (λ s. s.0 == switch.0) switches.now }
+/// Whether the items are of one switch, the same.
+fn is_repeat(a: &SwitchGroup, b: &SwitchGroup) -> bool
+    ensures { result ≡ is_repeat a.now b.now }
 {
-    switches.iter().any(|s| s.0 == switch.0)
+    let a = a.list();
+    let b = b.list();
+    a.len() == 1 && b.len() == 1 && a[0].0 == b[0].0
 }
 
-/// The switches, each where it stands first.
-fn each_once(alloc: Global, switches: &[SwitchId]) -> Result<Vec<SwitchId>, Memory>
-    ensures { IfOk result (λ v. v.items ≡ first_of_each switches.now) }
+/// Whether the switch that the item is of, where it is of one, stands in the list as such an item.
+fn stands_in(items: &[SwitchGroup], item: &SwitchGroup) -> bool
+    ensures { result ≡ list_any (λ other. is_repeat other item.now) items.now }
+{
+    items.iter().any(|other| is_repeat(other, item))
+}
+
+/// The items, of those of one switch that which stands first.
+fn each_once(alloc: Global, items: &[SwitchGroup]) -> Result<Vec<SwitchGroup>, Memory>
+    ensures { IfOk result (λ v. v.items ≡ items_of_chain items.now) }
 {
     let mut kept = Vec::new(alloc);
-    for switch in switches {
-        if !stands_in(&kept, *switch) {
-            kept.push(*switch)?;
+    for item in items {
+        if !stands_in(&kept, item) {
+            kept.push(item.copy(alloc)?)?;
         }
     }
     Ok(kept)
 }
 
 /// Whether the first differing switch is lower in the first list, or the second list goes on from it.
-fn comes_before(a: &[SwitchId], b: &[SwitchId]) -> bool
+fn group_before(a: &[SwitchId], b: &[SwitchId]) -> bool
+    ensures { result ≡ group_lt a.now b.now }
+{
+    if b.is_empty() {
+        return false;
+    }
+    if a.is_empty() {
+        return true;
+    }
+    if a[0].0 < b[0].0 {
+        return true;
+    }
+    if b[0].0 < a[0].0 {
+        return false;
+    }
+    group_before(&a[1..], &b[1..])
+}
+
+/// Whether the first differing item comes before the other one, or the second chain goes on from the first.
+fn items_before(a: &[SwitchGroup], b: &[SwitchGroup]) -> bool
     ensures { result ≡ chain_lt a.now b.now }
 {
     if b.is_empty() {
@@ -38,39 +66,42 @@ fn comes_before(a: &[SwitchId], b: &[SwitchId]) -> bool
     if a.is_empty() {
         return true;
     }
-    if a[0].0 != b[0].0 {
-        return a[0].0 < b[0].0;
+    if group_before(a[0].list(), b[0].list()) {
+        return true;
     }
-    comes_before(&a[1..], &b[1..])
+    if group_before(b[0].list(), a[0].list()) {
+        return false;
+    }
+    items_before(&a[1..], &b[1..])
 }
 
 impl Chain {
-    /// The chain of a list of waypoints: each switch where it stands first.
-    pub(crate) fn of_switches(alloc: Global, switches: &[SwitchId]) -> Result<Chain, Memory>
-        ensures { IfOk result (λ c. c ≡ first_of_each switches.now) }
+    /// The chain of a list of items: of those of one switch that which stands first.
+    pub(crate) fn of_items(alloc: Global, items: &[SwitchGroup]) -> Result<Chain, Memory>
+        ensures { IfOk result (λ c. c ≡ items_of_chain items.now) }
     {
-        let switches = each_once(alloc, switches)?;
-        Ok(Chain { switches })
+        let items = each_once(alloc, items)?;
+        Ok(Chain { items })
     }
 
-    /// The switches of the chain.
-    pub(crate) fn list(&self) -> &[SwitchId]
+    /// The items of the chain.
+    pub(crate) fn list(&self) -> &[SwitchGroup]
         ensures { result.now ≡ self.now }
     {
-        self.switches.as_slice()
+        self.items.as_slice()
     }
 
     fn is_empty(&self) -> bool
         ensures { result ≡ (length self.now == 0) }
     {
-        self.switches.is_empty()
+        self.items.is_empty()
     }
 
     /// Whether it comes before another chain in their order.
     fn is_before(&self, other: &Chain) -> bool
         ensures { result ≡ chain_lt self.now other.now }
     {
-        comes_before(self.list(), other.list())
+        items_before(self.list(), other.list())
     }
 }
 

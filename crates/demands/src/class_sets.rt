@@ -11,15 +11,6 @@ use dest_classes::{AtomRange, ClassMap};
 use net_base::{Memory, Place};
 use std::alloc::Global;
 
-impl Demand {
-    /// Whether it speaks of packets that enter there.
-    fn speaks_of_entry(&self, entry: Place) -> bool
-        ensures { result ≡ speaks_of_entry self.now entry }
-    {
-        self.cover.speaks_of_entry(entry)
-    }
-}
-
 /// An entry, with the demands that speak of packets that enter there.
 #[derive(Clone, Copy)]
 pub(crate) struct EntrySet {

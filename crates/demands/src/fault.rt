@@ -30,16 +30,19 @@ pub enum DemandFault {
     /// The text is no prefix.
     #[error("BadPrefix")]
     BadPrefix(u32),
-    /// More than 512 demands, or of a demand more than 16 waypoints or 1,024 port references.
+    /// More than 512 demands, or of a demand more than 16 waypoints, 1,024 names of a waypoint or 1,024 port references.
     #[error("TooMany")]
     TooMany(Field, u32),
+    /// It denies, and asks for something besides.
+    #[error("BadDemand")]
+    BadDemand(u32),
     /// Memory was wanting.
     #[error("Memory")]
     Memory,
 }
 
 impl DemandFault {
-    /// The number of the refusal, 1 to 7; 0 for want of memory, which is none.
+    /// The number of the refusal, 1 to 7 or 10; 0 for want of memory, which is none.
     pub fn number(self) -> u32
         ensures { result ≡ fault_number self }
     {
@@ -51,6 +54,7 @@ impl DemandFault {
             DemandFault::BadVlan(_) => 5,
             DemandFault::BadPrefix(_) => 6,
             DemandFault::TooMany(..) => 7,
+            DemandFault::BadDemand(_) => 10,
             DemandFault::Memory => 0,
         }
     }
@@ -67,6 +71,7 @@ impl DemandFault {
             DemandFault::BadVlan(_) => "BadVlan",
             DemandFault::BadPrefix(_) => "BadPrefix",
             DemandFault::TooMany(..) => "TooMany",
+            DemandFault::BadDemand(_) => "BadDemand",
             DemandFault::Memory => "Memory",
         }
     }
@@ -92,7 +97,8 @@ impl DemandFault {
             | DemandFault::NotHost(place)
             | DemandFault::BadVlan(place)
             | DemandFault::BadPrefix(place)
-            | DemandFault::TooMany(_, place) => place,
+            | DemandFault::TooMany(_, place)
+            | DemandFault::BadDemand(place) => place,
         }
     }
 }
@@ -116,6 +122,14 @@ impl<T: Drop> From<AllocFailed<T>> for DemandFault {
     ghost from_gives = { λ _ e. e ≡ Memory };
 
     fn from(_: AllocFailed<T>) -> DemandFault {
+        DemandFault::Memory
+    }
+}
+
+impl From<net_base::Memory> for DemandFault {
+    ghost from_gives = { λ _ e. e ≡ Memory };
+
+    fn from(_: net_base::Memory) -> DemandFault {
         DemandFault::Memory
     }
 }

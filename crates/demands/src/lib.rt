@@ -8,6 +8,10 @@ mod hosts;
 pub mod laws;
 mod policy;
 mod read;
+mod read_exits;
+mod read_ports;
+mod read_through;
+mod rows;
 mod sets;
 mod stored;
 
@@ -15,7 +19,7 @@ use dest_classes::ClassMap;
 pub use fault::DemandFault;
 use flow_rules::VlanTest;
 use hosts::Hosts;
-use net_base::{Prefix, SwitchId};
+use net_base::{Prefix, SwitchGroup};
 pub use policy::no_demands;
 pub use read::read_demands;
 use std::marker::Model;
@@ -29,13 +33,16 @@ pub(crate) struct Cover {
     dst: Prefix,
 }
 
-/// A demand: which packets it speaks of, the waypoints that they must visit in this order where they leave, and whether
-/// they must arrive. It names a host port, in a wide network up to 1,024, or speaks of packets from any.
+/// A demand: which packets it speaks of, the waypoints that they must visit in this order where they leave, whether they must
+/// arrive, and its exits, the only host ports at which they may leave. It names a host port, in a wide network up to 1,024, or
+/// speaks of packets from any, in a wide network of those that don't enter at one of its exits. A waypoint is a switch, in a wide
+/// network one of up to 1,024. A narrow network has no demands with exits.
 #[derive(Drop)]
 pub struct Demand {
     cover: Cover,
-    through: Vec<SwitchId>,
+    through: Vec<SwitchGroup>,
     deliver: bool,
+    exits: Option<Hosts>,
 }
 
 impl Model for Demand {
@@ -43,7 +50,7 @@ impl Model for Demand {
 
     ghost Value = { DemandView };
 
-    ghost view = { λ d. record { from = d.cover.from; vlan = d.cover.vlan; dst = d.cover.dst; through = d.through.items; deliver = d.deliver } };
+    ghost view = { λ d. record { from = d.cover.from; vlan = d.cover.vlan; dst = d.cover.dst; through = d.through.items; deliver = d.deliver; exits = d.exits } };
 }
 
 /// A policy: a list of at most 512 demands.
@@ -63,35 +70,37 @@ impl Model for Demands {
     ghost invariant = { λ d. length d.list.items ≤ 512 };
 }
 
-/// A chain of waypoints, each switch once.
+/// A chain of waypoints: items, of each of which a packet visits one switch. An item of one switch stands once.
 #[derive(Drop)]
 pub(crate) struct Chain {
-    switches: Vec<SwitchId>,
+    items: Vec<SwitchGroup>,
 }
 
 impl Model for Chain {
     ghost use Rattle.std.specs.Prelude.{List};
     ghost use Rattle.net_base.specs.declared.ids.SwitchId.{SwitchId};
 
-    ghost Value = { List SwitchId };
+    ghost Value = { List (List SwitchId) };
 
-    ghost view = { λ c. c.switches.items };
+    ghost view = { λ c. c.items.items };
 }
 
-/// What is asked of the packets of a class: chains of waypoints, and whether they must arrive.
+/// What is asked of the packets of a class: chains of waypoints, whether they must arrive, and the only host ports at which they
+/// may leave, where some demand says which.
 #[derive(Drop)]
 pub(crate) struct Duty {
     chains: Vec<Chain>,
     arrive: bool,
+    exits: Option<Hosts>,
 }
 
 impl Model for Duty {
     ghost use Rattle.std.specs.Prelude.{◌≤◌, length};
-    ghost use Rattle.demands.specs.Duties.{PacketDuties};
+    ghost use Rattle.demands.specs.Kept.{KeptDuties};
 
-    ghost Value = { PacketDuties };
+    ghost Value = { KeptDuties };
 
-    ghost view = { λ d. record { chains = d.chains.items; arrive = d.arrive } };
+    ghost view = { λ d. record { chains = d.chains.items; arrive = d.arrive; exits = d.exits } };
 
     ghost invariant = { λ d. length d.chains.items ≤ 512 };
 }

@@ -1,46 +1,18 @@
 //! Policies as lists of demands, and what a demand covers.
-ghost use Rattle.std.specs.Prelude.{◌≡◌, ◌<◌, ◌≤◌, ◌&&◌, ◌++◌, ◌∷◌, [], Some, length, map, option_map, slice_get, IfOk, if◌then◌else◌, is_ok};
+ghost use Rattle.std.specs.Prelude.{◌≡◌, ◌<◌, ◌≤◌, ◌++◌, ◌∷◌, [], Some, length, map, option_map, slice_get, IfOk, if◌then◌else◌, is_ok};
 ghost use Rattle.std.specs.List.{AllByRecursion, list_any};
 ghost use Rattle.net_base.specs.Members.{IsIn};
-ghost use Rattle.demands.specs.Covers.{is_covered};
 ghost use Rattle.demands.specs.Duties.{admits_entry, demand_covers};
-ghost use Rattle.flow_rules.specs.Patterns.{admits_vlan};
+ghost use Rattle.demands.specs.Sets.{speaks_of_entry};
 
+use crate::hosts::copy_exits;
 use crate::{Cover, Demand, Demands};
 use dest_classes::Class;
 use flow_rules::admits_vlan;
-use net_base::{Memory, Place, Prefix, Stop};
+use net_base::{Memory, Place, Prefix, Stop, SwitchGroup};
 use std::alloc::{AllocFailed, Global};
 
 impl Cover {
-    /// Whether packets that enter there, to this address, are spoken of.
-    pub(crate) fn covers(&self, entry: Place, dst: u32) -> bool
-        ensures { result ≡ is_covered self.now entry dst }
-    {
-        self.speaks_of_entry(entry) && self.dst.has(dst)
-    }
-
-    /// Whether packets that enter there are spoken of, to some addresses.
-    pub(crate) fn speaks_of_entry(&self, entry: Place) -> bool
-        ensures { result
-            ≡ (admits_entry self.now.from entry && admits_vlan self.now.vlan entry.vlan) }
-    {
-        self.admits_entry(entry) && admits_vlan(self.vlan, entry.vlan)
-    }
-
-    /// Whether the entry is at one of its host ports, or it speaks of packets of any.
-    fn admits_entry(&self, entry: Place) -> bool
-        ensures { result ≡ admits_entry self.now.from entry }
-    {
-        match &self.from {
-            None => true,
-            Some(hosts) => hosts.has(Stop {
-                switch: entry.switch,
-                port: entry.port,
-            }),
-        }
-    }
-
     fn copy(&self) -> Result<Cover, Memory>
         ensures { IfOk result (λ c. c ≡ self.now) }
     {
@@ -57,18 +29,62 @@ impl Cover {
 }
 
 impl Demand {
+    /// Whether it speaks of the packets of the class that go to its first address.
+    pub(crate) fn covers(&self, class: Class) -> bool
+        ensures { result ≡ demand_covers self.now class.entry class.first }
+    {
+        self.speaks_of_entry(class.entry) && self.cover.dst.has(class.first)
+    }
+
+    /// Whether it speaks of packets that enter there, to some addresses.
+    pub(crate) fn speaks_of_entry(&self, entry: Place) -> bool
+        ensures { result ≡ speaks_of_entry self.now entry }
+    {
+        self.admits_entry(entry) && admits_vlan(self.cover.vlan, entry.vlan)
+    }
+
+    /// Whether the entry is at one of the host ports that it names; where it names none, whether it is at none of its exits.
+    fn admits_entry(&self, entry: Place) -> bool
+        ensures { result ≡ admits_entry self.now.from self.now.exits entry }
+    {
+        let stop = Stop {
+            switch: entry.switch,
+            port: entry.port,
+        };
+        match &self.cover.from {
+            Some(hosts) => hosts.has(stop),
+            None => match &self.exits {
+                Some(ports) => !ports.has(stop),
+                None => true,
+            },
+        }
+    }
+
     pub(crate) fn copy(&self) -> Result<Demand, Memory>
         ensures { IfOk result (λ d. d ≡ self.now) }
     {
         let alloc = *self.through.allocator();
         let cover = self.cover.copy()?;
-        let through = Vec::from_slice(alloc, self.through.as_slice())?;
+        let through = copy_items(alloc, self.through.as_slice())?;
+        let exits = copy_exits(&self.exits)?;
         Ok(Demand {
             cover,
             through,
             deliver: self.deliver,
+            exits,
         })
     }
+}
+
+/// Equal items.
+fn copy_items(alloc: Global, items: &[SwitchGroup]) -> Result<Vec<SwitchGroup>, Memory>
+    ensures { IfOk result (λ v. v.items ≡ items.now) }
+{
+    let mut copies = Vec::new(alloc);
+    for item in items {
+        copies.push(item.copy(alloc)?)?;
+    }
+    Ok(copies)
 }
 
 impl Demands {

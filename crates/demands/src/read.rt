@@ -1,5 +1,5 @@
 //! The reader of a policy.
-ghost use Rattle.std.specs.Prelude.{◌≡◌, Ok, [], map, option_map, IfOk, MatchResult};
+ghost use Rattle.std.specs.Prelude.{◌≡◌, ◌||◌, Ok, [], length, map, nat_lt, option_map, IfOk, MatchResult};
 ghost use Rattle.flat_json.specs.Trees.{data_of};
 ghost use Rattle.net_base.specs.Reading.{Gives, Fails, in_turn};
 ghost use Rattle.demands.specs.declared.fault.DemandFault.TheVariants.{Memory};
@@ -7,23 +7,19 @@ ghost use Rattle.demands.specs.Policy as policy;
 ghost use Rattle.demands.specs.Ranges.{AreDemands};
 
 use crate::fault::DemandFault;
-use crate::hosts::Hosts;
+use crate::read_exits::read_exits;
+use crate::read_ports::read_from;
+use crate::read_through::read_through;
 use crate::{Cover, Demand, Demands};
 use flat_json::{Node, Tree, parse_tree};
 use flow_rules::VlanTest;
 use json::Scratch;
-use net_base::{Field, MAX_PORT, Port, Prefix, Stop, SwitchId, place_of, read_prefix};
+use net_base::{Field, Prefix, SwitchGroup, place_of, read_prefix};
 use std::alloc::Global;
-use topology::{Net, is_vlan_id, reference_parts};
+use topology::{Net, is_vlan_id};
 
 /// The greatest number of demands of a policy.
 const MAX_DEMANDS: usize = 512;
-
-/// The greatest number of port references of a demand, in a wide network.
-const MAX_SOURCES: usize = 1024;
-
-/// The greatest number of waypoints of a demand.
-const MAX_WAYPOINTS: usize = 16;
 
 /// A VLAN test as it is spelled.
 #[derive(Clone, Copy)]
@@ -31,139 +27,6 @@ enum TestWord {
     Any,
     Untagged,
     Number(u64),
-}
-
-/// The host port with this number.
-fn host_with(net: &Net, switch: SwitchId, number: u64) -> Option<Stop>
-    ensures { result ≡ policy.host_with net.now switch.0 number }
-{
-    if number > MAX_PORT {
-        return None;
-    }
-    let stop = Stop {
-        switch,
-        port: Port(number as u16),
-    };
-    if net.is_host(stop) { Some(stop) } else { None }
-}
-
-/// Reads a port reference to a host port.
-#[tactic(auto, unfolding(crate::specs::Policy::host_in))]
-fn read_host(net: &Net, place: u32, text: &str) -> Result<Stop, DemandFault>
-    ensures { Gives Memory (λ s. s) result (policy.host_in net.now place text.now) }
-{
-    let (name, number) = reference_parts(text).ok_or(DemandFault::Shape(Field::From, place))?;
-    let switch = net.find(name).ok_or(DemandFault::UnknownSwitch(place))?;
-    host_with(net, switch, number).ok_or(DemandFault::NotHost(place))
-}
-
-/// Reads `any` or a host port.
-#[tactic(auto, unfolding(crate::specs::Policy::source_in))]
-fn read_source(
-    alloc: Global,
-    net: &Net,
-    place: u32,
-    text: &str,
-) -> Result<Option<Hosts>, DemandFault>
-    ensures { Gives Memory (λ o. o) result (policy.source_in net.now place text.now) }
-{
-    if text == "any" {
-        return Ok(None);
-    }
-    let stop = read_host(net, place, text)?;
-    let hosts = Hosts::one(alloc, stop)?;
-    Ok(Some(hosts))
-}
-
-/// Reads one item of a list of port references.
-#[tactic(auto, unfolding(crate::specs::Policy::source_at))]
-fn read_listed(
-    net: &Net,
-    place: u32,
-    hosts: &mut Hosts,
-    tree: &Tree<'_>,
-    item: &Node,
-) -> Result<(), DemandFault>
-    ensures { MatchResult result
-        (λ _. policy.source_at net.now place hosts.old (data_of tree.now item.now) ≡ Ok hosts.new)
-        (λ e. Fails Memory e (policy.source_at net.now place hosts.old
-        (data_of tree.now item.now))) }
-{
-    let text = tree
-        .as_str(item)
-        .ok_or(DemandFault::Shape(Field::From, place))?;
-    let stop = read_host(net, place, text)?;
-    hosts.put(stop)?;
-    Ok(())
-}
-
-/// Reads the items of a list of port references, one after the other.
-fn read_each_listed(
-    alloc: Global,
-    net: &Net,
-    place: u32,
-    tree: &Tree<'_>,
-    items: &[Node],
-) -> Result<Hosts, DemandFault>
-    ensures { Gives Memory (λ h. h) result
-        (in_turn (λ i. policy.source_at net.now place) 0 [] (map (data_of tree.now) items.now)) }
-{
-    let mut hosts = Hosts::none(alloc);
-    for item in items {
-        read_listed(net, place, &mut hosts, tree, item)?;
-    }
-    Ok(hosts)
-}
-
-/// Reads a list of port references, which a wide network may have.
-#[tactic(auto, unfolding(crate::specs::Policy::listed_in))]
-fn read_list(
-    alloc: Global,
-    net: &Net,
-    place: u32,
-    tree: &Tree<'_>,
-    value: &Node,
-) -> Result<Hosts, DemandFault>
-    ensures { Gives Memory (λ h. h) result
-        (policy.listed_in net.now place (data_of tree.now value.now)) }
-{
-    if !net.is_wide() {
-        return Err(DemandFault::Shape(Field::From, place));
-    }
-    let items = tree
-        .list_in(value)
-        .ok_or(DemandFault::Shape(Field::From, place))?;
-    if items.is_empty() {
-        return Err(DemandFault::Shape(Field::From, place));
-    }
-    if items.len() > MAX_SOURCES {
-        return Err(DemandFault::TooMany(Field::From, place));
-    }
-    read_each_listed(alloc, net, place, tree, items)
-}
-
-/// Reads the member `from`.
-#[tactic(auto, unfolding(crate::specs::Policy::from_in))]
-fn read_from(
-    alloc: Global,
-    net: &Net,
-    place: u32,
-    tree: &Tree<'_>,
-    member: Option<&Node>,
-) -> Result<Option<Hosts>, DemandFault>
-    ensures { Gives Memory (λ o. o) result
-        (policy.from_in net.now place (option_map (λ v. data_of tree.now v.now) member.entry)) }
-{
-    match member {
-        None => Ok(None),
-        Some(value) => match tree.as_str(value) {
-            Some(text) => read_source(alloc, net, place, text),
-            None => {
-                let hosts = read_list(alloc, net, place, tree, value)?;
-                Ok(Some(hosts))
-            }
-        },
-    }
 }
 
 /// The text `any` or `untagged`.
@@ -216,86 +79,6 @@ fn read_test(place: u32, tree: &Tree<'_>, member: Option<&Node>) -> Result<VlanT
     }
 }
 
-/// Reads one name of `through`.
-#[tactic(auto, unfolding(crate::specs::Policy::waypoint_at))]
-fn read_waypoint(
-    net: &Net,
-    place: u32,
-    through: &mut Vec<SwitchId>,
-    tree: &Tree<'_>,
-    item: &Node,
-) -> Result<(), DemandFault>
-    ensures { MatchResult result
-        (λ _. policy.waypoint_at net.now place through.old.items (data_of tree.now item.now)
-        ≡ Ok through.new.items)
-        (λ e. Fails Memory e (policy.waypoint_at net.now place through.old.items
-        (data_of tree.now item.now))) }
-{
-    let name = tree
-        .as_str(item)
-        .ok_or(DemandFault::Shape(Field::Through, place))?;
-    let switch = net.find(name).ok_or(DemandFault::UnknownSwitch(place))?;
-    through.push(switch)?;
-    Ok(())
-}
-
-/// Reads the names of `through`, one after the other.
-fn read_each_waypoint(
-    alloc: Global,
-    net: &Net,
-    place: u32,
-    tree: &Tree<'_>,
-    items: &[Node],
-) -> Result<Vec<SwitchId>, DemandFault>
-    ensures { Gives Memory (λ v. v.items) result
-        (in_turn (λ i. policy.waypoint_at net.now place) 0 [] (map (data_of tree.now) items.now)) }
-{
-    let mut through = Vec::new(alloc);
-    for item in items {
-        read_waypoint(net, place, &mut through, tree, item)?;
-    }
-    Ok(through)
-}
-
-/// Reads a list of names of switches.
-#[tactic(auto, unfolding(crate::specs::Policy::waypoints_in))]
-fn read_waypoints(
-    alloc: Global,
-    net: &Net,
-    place: u32,
-    tree: &Tree<'_>,
-    value: &Node,
-) -> Result<Vec<SwitchId>, DemandFault>
-    ensures { Gives Memory (λ v. v.items) result
-        (policy.waypoints_in net.now place (data_of tree.now value.now)) }
-{
-    let items = tree
-        .list_in(value)
-        .ok_or(DemandFault::Shape(Field::Through, place))?;
-    if items.len() > MAX_WAYPOINTS {
-        return Err(DemandFault::TooMany(Field::Through, place));
-    }
-    read_each_waypoint(alloc, net, place, tree, items)
-}
-
-/// Reads the member `through`.
-#[tactic(auto, unfolding(crate::specs::Policy::through_in))]
-fn read_through(
-    alloc: Global,
-    net: &Net,
-    place: u32,
-    tree: &Tree<'_>,
-    member: Option<&Node>,
-) -> Result<Vec<SwitchId>, DemandFault>
-    ensures { Gives Memory (λ v. v.items) result
-        (policy.through_in net.now place (option_map (λ v. data_of tree.now v.now) member.entry)) }
-{
-    match member {
-        None => Ok(Vec::new(alloc)),
-        Some(value) => read_waypoints(alloc, net, place, tree, value),
-    }
-}
-
 /// Reads the member `deliver`.
 #[tactic(auto, unfolding(crate::specs::Policy::deliver_in))]
 fn read_deliver(place: u32, tree: &Tree<'_>, member: Option<&Node>) -> Result<bool, DemandFault>
@@ -308,22 +91,6 @@ fn read_deliver(place: u32, tree: &Tree<'_>, member: Option<&Node>) -> Result<bo
             .as_bool(value)
             .ok_or(DemandFault::Shape(Field::Deliver, place)),
     }
-}
-
-/// Refuses the members `to` and `deny` in a wide network, where they have a meaning: this version has no such demands yet. In a
-/// narrow network they aren't named, and passed over.
-#[tactic(auto, unfolding(crate::specs::Policy::unknown_in))]
-fn refuse_unknown(net: &Net, place: u32, tree: &Tree<'_>, item: &Node) -> Result<(), DemandFault>
-    ensures { Gives Memory (λ _. tt) result
-        (policy.unknown_in net.now place (data_of tree.now item.now)) }
-{
-    if net.is_wide() && tree.get(item, "to").is_some() {
-        return Err(DemandFault::Shape(Field::To, place));
-    }
-    if net.is_wide() && tree.get(item, "deny").is_some() {
-        return Err(DemandFault::Shape(Field::Deny, place));
-    }
-    Ok(())
 }
 
 /// Reads the prefix of the destinations.
@@ -355,6 +122,13 @@ fn read_cover(
     Ok(Cover { from, vlan, dst })
 }
 
+/// Whether a demand asks for something besides its exits: to arrive, or to visit waypoints.
+fn asks_more(deliver: bool, through: &[SwitchGroup]) -> bool
+    ensures { result ≡ (deliver || nat_lt 0 (length through.now)) }
+{
+    deliver || !through.is_empty()
+}
+
 /// Reads one demand.
 #[tactic(auto, unfolding(crate::specs::Policy::demand_in))]
 fn read_demand(
@@ -370,11 +144,13 @@ fn read_demand(
     let cover = read_cover(alloc, net, place, tree, item)?;
     let through = read_through(alloc, net, place, tree, tree.get(item, "through"))?;
     let deliver = read_deliver(place, tree, tree.get(item, "deliver"))?;
-    refuse_unknown(net, place, tree, item)?;
+    let asks = asks_more(deliver, &through);
+    let exits = read_exits(alloc, net, place, asks, tree, item)?;
     Ok(Demand {
         cover,
         through,
         deliver,
+        exits,
     })
 }
 
@@ -451,8 +227,8 @@ fn read_file(alloc: Global, net: &Net, bytes: &[u8]) -> Result<Demands, DemandFa
     read_members(alloc, net, &tree, tree.top())
 }
 
-/// The demands that the bytes describe, or the first refusal of the table of members. In a wide network a demand may name a list
-/// of host ports. Lists in `through`, and the members `to` and `deny` of a wide network, aren't there yet, and are refused.
+/// The demands that the bytes describe, or the first refusal of the table of members. In a wide network a demand may name lists
+/// of host ports and groups of switches, and may have exits.
 pub fn read_demands(alloc: Global, net: &Net, bytes: &[u8]) -> Result<Demands, DemandFault>
     ensures read { Gives Memory (λ d. d) result (policy.demands_in net.now bytes.now) }
     ensures in_range { IfOk result (λ d. AreDemands net.now d) }

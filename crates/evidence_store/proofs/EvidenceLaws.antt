@@ -1,15 +1,16 @@
 -- What is noted of the mixed walks of a class, and evidence that keeps it safe.
-use Rattle.std.proofs.Common.{◌≡◌, ◌↔◌, ℕ, ◌<◌, ◌≤◌, IsTrue, List, [], ◌∷◌, length, drop, Option, Some, None, refl, sym, ap, subst, arith}
+use Rattle.std.proofs.Common.{◌≡◌, ◌↔◌, ℕ, ◌<◌, ◌≤◌, false, IsTrue, List, [], ◌∷◌, length, drop, Option, Some, None, refl, sym, ap, subst, arith}
 use Rattle.std.specs.List.{AllByRecursion}
 use Rattle.std.proofs.lemmas.List.{length-drop}
 use Rattle.net_base.specs.Members.{IsIn}
 use Rattle.net_base.specs.Walks.{IsWalk, end_of}
 use Rattle.net_base.specs.declared.ids.SwitchId.{SwitchId}
+use Rattle.net_base.specs.declared.ids.Stop.{Stop}
 use Rattle.net_base.proofs.MemberLaws.{each_weaker, each_first, each_last, each_at}
 use Rattle.net_base.proofs.WalkLaws.{walk_weaker}
 use Rattle.topology.specs.Networks.{Network, switch_count}
 use Rattle.dest_classes.specs.declared.Class.{Class}
-use Rattle.demands.specs.Duties.{PacketDuties}
+use Rattle.demands.specs.Duties.{PacketDuties, lets}
 use Rattle.acyclic_numbering.specs.Heights.{IsEdge, number_of, Falls, AreHeights}
 use Rattle.acyclic_numbering.specs.Numbered.{IsClosedWalk}
 use Rattle.acyclic_numbering.specs.declared.Edge.{Edge}
@@ -65,34 +66,34 @@ module _ (edge other : SwitchId → SwitchId → Type 0) (same : (s t : SwitchId
     });
   }
 
-  before_along : (start waypoint : SwitchId) (earlier : Option (List ℕ)) (set : List ℕ) → IsBeforeSet start edge waypoint earlier set → IsBeforeSet start other waypoint earlier set
-  before_along start waypoint earlier set before = record { begins = before.begins; stays = λ s t step held. before.stays s t ((same s t).1 step) held }
+  before_along : (start : SwitchId) (item : List SwitchId) (earlier : Option (List ℕ)) (set : List ℕ) → IsBeforeSet start edge item earlier set → IsBeforeSet start other item earlier set
+  before_along start item earlier set before = record { begins = before.begins; stays = λ s t step held. before.stays s t ((same s t).1 step) held }
 
-  guard_along : (start : SwitchId) (leaves may : SwitchId → Type 0) → ((s : SwitchId) → leaves s ↔ may s) → (waypoint : SwitchId) (earlier : Option (List ℕ)) (set : List ℕ)
-      → IsGuard start edge leaves waypoint earlier set → IsGuard start other may waypoint earlier set
-  guard_along start leaves may leaving waypoint earlier set guard =
-      record { before = before_along start waypoint earlier set guard.before; keeps = λ s leave held. guard.keeps s ((leaving s).1 leave) held }
+  guard_along : (start : SwitchId) (leaves may : SwitchId → Type 0) → ((s : SwitchId) → leaves s ↔ may s) → (item : List SwitchId) (earlier : Option (List ℕ)) (set : List ℕ)
+      → IsGuard start edge leaves item earlier set → IsGuard start other may item earlier set
+  guard_along start leaves may leaving item earlier set guard =
+      record { before = before_along start item earlier set guard.before; keeps = λ s leave held. guard.keeps s ((leaving s).1 leave) held }
 
 turned : {P Q : Type 0} → (P ↔ Q) → Q ↔ P
 turned e = (e.1, e.0)
 
 module _ (edge other : SwitchId → SwitchId → Type 0) (same : (s t : SwitchId) → edge s t ↔ other s t) where
-  least_along : (start waypoint : SwitchId) (earlier : Option (List ℕ)) (set : List ℕ) → IsLeastBefore start edge waypoint earlier set → IsLeastBefore start other waypoint earlier set
-  least_along start waypoint earlier set least = record {
-    before = before_along edge other same start waypoint earlier set least.before;
-    least = λ more before s held. least.least more (before_along other edge (λ x y. turned (same x y)) start waypoint earlier more before) s held;
+  least_along : (start : SwitchId) (item : List SwitchId) (earlier : Option (List ℕ)) (set : List ℕ) → IsLeastBefore start edge item earlier set → IsLeastBefore start other item earlier set
+  least_along start item earlier set least = record {
+    before = before_along edge other same start item earlier set least.before;
+    least = λ more before s held. least.least more (before_along other edge (λ x y. turned (same x y)) start item earlier more before) s held;
   }
 
 -- ---- the sets of positions
 
 module _ (V : List ℕ → Type 0) where
-  of_chain : (earlier : Option (List ℕ)) (chain : List SwitchId) (sets : List (List ℕ)) → AllByRecursion (λ p. V p.set) (chain_positions earlier chain sets) → AllByRecursion V (drop (length chain) sets) → AllByRecursion V sets
+  of_chain : (earlier : Option (List ℕ)) (chain : List (List SwitchId)) (sets : List (List ℕ)) → AllByRecursion (λ p. V p.set) (chain_positions earlier chain sets) → AllByRecursion V (drop (length chain) sets) → AllByRecursion V sets
   of_chain earlier [] sets first rest = rest
   of_chain earlier (w ∷ chain) [] first rest = tt
   of_chain earlier (w ∷ chain) (set ∷ sets) first rest = (first.0, of_chain (Some set) chain sets first.1 rest)
 
   -- what holds of the set of each position holds of each set
-  pub of_positions : (chains : List (List SwitchId)) (sets : List (List ℕ)) → length sets ≡ position_count chains → AllByRecursion (λ p. V p.set) (positions chains sets) → AllByRecursion V sets
+  pub of_positions : (chains : List (List (List SwitchId))) (sets : List (List ℕ)) → length sets ≡ position_count chains → AllByRecursion (λ p. V p.set) (positions chains sets) → AllByRecursion V sets
   of_positions [] [] count all = tt
   of_positions [] (set ∷ sets) count all = absurd (omega arith)
   of_positions (c ∷ chains) sets count all =
@@ -114,19 +115,26 @@ module _ (u : Rollout) (k : ℕ) (class : Class) (duties : PacketDuties) (noted 
   abbrev pub Drops : Type 0
   Drops = IsTrue duties.arrive × ((s : SwitchId) × IsIn s noted.dropping)
 
+  -- a packet may leave by a port that is none of the exits
+  abbrev pub LeavesElsewhere : Type 0
+  LeavesElsewhere = (stop : Stop) × IsIn stop noted.exits × (lets duties.exits stop ≡ false)
+
   abbrev pub Safe : List ℕ → List (List ℕ) → Type 0
   Safe numbers sets = IsSafe u k class.first class.entry duties numbers sets
 
   -- numbers and sets that keep the class safe, by what was noted
-  pub safe_of : (numbers : List ℕ) (sets : List (List ℕ)) → Falls (IsEdge noted.steps) numbers → ¬ Drops → length sets ≡ position_count duties.chains
+  pub safe_of : (numbers : List ℕ) (sets : List (List ℕ)) → Falls (IsEdge noted.steps) numbers → ¬ Drops → ¬ LeavesElsewhere → length sets ≡ position_count duties.chains
       → AllByRecursion (IsGuarded class.entry.switch noted) (positions duties.chains sets) → Safe numbers sets
-  safe_of numbers sets falls drops count guards = record {
+  safe_of numbers sets falls drops elsewhere count guards = record {
     falls = λ s t step. falls s t ((walked.steps s t).1 step);
     arrives = λ arrive drop. drops (arrive, (drop.place.switch, (walked.dropping drop.place.switch).1 (record { place = drop.place; on_walk = drop.on_walk; drops = drop.drops; at_is = refl })));
+    exits = λ s may.
+        let stop : Stop = record { switch = may.place.switch; port = may.port } in
+        elsewhere (stop, (walked.exits stop).1 (record { place = may.place; vlan = may.vlan; on_walk = may.on_walk; leaves = may.leaves; at_is = refl }), may.elsewhere);
     guarded = record {
       count = count;
-      guards = each_weaker (IsGuarded class.entry.switch noted) (λ (p : Position). IsGuard class.entry.switch mixed may p.waypoint p.earlier p.set)
-          (λ p guard. guard_along (IsEdge noted.steps) mixed walked.steps class.entry.switch (λ s. IsIn s noted.leaving) may walked.leaving p.waypoint p.earlier p.set guard) (positions duties.chains sets) guards;
+      guards = each_weaker (IsGuarded class.entry.switch noted) (λ (p : Position). IsGuard class.entry.switch mixed may p.item p.earlier p.set)
+          (λ p guard. guard_along (IsEdge noted.steps) mixed walked.steps class.entry.switch (λ s. IsIn s noted.leaving) may walked.leaving p.item p.earlier p.set guard) (positions duties.chains sets) guards;
     };
   }
 
@@ -136,10 +144,23 @@ module _ (u : Rollout) (k : ℕ) (class : Class) (duties : PacketDuties) (noted 
   pub safe_arrives : (numbers : List ℕ) (sets : List (List ℕ)) → Safe numbers sets → ¬ Drops
   safe_arrives numbers sets safe (arrive, (s, i)) = let drop = (walked.dropping s).0 i in safe.arrives arrive (record { place = drop.place; on_walk = drop.on_walk; drops = drop.drops })
 
+  pub safe_inside : (numbers : List ℕ) (sets : List (List ℕ)) → Safe numbers sets → ¬ LeavesElsewhere
+  safe_inside numbers sets safe (stop, i, out) =
+      let by = (walked.exits stop).0 i in
+      safe.exits by.place.switch (record {
+        place = by.place;
+        port = stop.port;
+        vlan = by.vlan;
+        on_walk = by.on_walk;
+        leaves = by.leaves;
+        at_is = refl;
+        elsewhere = subst (λ (s : SwitchId). let x : Stop = record { switch = s; port = stop.port } in lets duties.exits x ≡ false) (sym by.at_is) out;
+      })
+
   pub safe_guards : (numbers : List ℕ) (sets : List (List ℕ)) → Safe numbers sets → AllByRecursion (IsGuarded class.entry.switch noted) (positions duties.chains sets)
   safe_guards numbers sets safe =
-      each_weaker (λ (p : Position). IsGuard class.entry.switch mixed may p.waypoint p.earlier p.set) (IsGuarded class.entry.switch noted)
-      (λ p guard. guard_along mixed (IsEdge noted.steps) (λ s t. turned (walked.steps s t)) class.entry.switch may (λ s. IsIn s noted.leaving) (λ s. turned (walked.leaving s)) p.waypoint p.earlier p.set guard)
+      each_weaker (λ (p : Position). IsGuard class.entry.switch mixed may p.item p.earlier p.set) (IsGuarded class.entry.switch noted)
+      (λ p guard. guard_along mixed (IsEdge noted.steps) (λ s t. turned (walked.steps s t)) class.entry.switch may (λ s. IsIn s noted.leaving) (λ s. turned (walked.leaving s)) p.item p.earlier p.set guard)
       (positions duties.chains sets) safe.guarded.guards
 
   -- no evidence where the steps have a closed walk
@@ -152,19 +173,19 @@ module _ (u : Rollout) (k : ℕ) (class : Class) (duties : PacketDuties) (noted 
     none_guarded none numbers sets safe = none sets safe.guarded.count (safe_guards numbers sets safe)
 
     -- the heights and the least guards keep the class safe
-    pub evidence_is : (numbers : List ℕ) (sets : List (List ℕ)) → AreHeights (IsEdge noted.steps) (switch_count net) numbers → AllByRecursion (λ x. x ≤ 65535) numbers → ¬ Drops
+    pub evidence_is : (numbers : List ℕ) (sets : List (List ℕ)) → AreHeights (IsEdge noted.steps) (switch_count net) numbers → AllByRecursion (λ x. x ≤ 65535) numbers → ¬ Drops → ¬ LeavesElsewhere
         → AreGuardsFound net class.entry.switch noted duties.chains (Some sets) → IsSafeEvidence u k class duties (record { numbering = numbers; befores = sets })
-    evidence_is numbers sets heights small drops found =
+    evidence_is numbers sets heights small drops elsewhere found =
         let at_u = subst (λ (n : Network). AreHeights (IsEdge noted.steps) (switch_count n) numbers) (sym same) heights in
         let within = λ (s t : SwitchId) (i : IsEdge noted.steps s t). each_at (λ (e : Edge). (e.from.0 < switch_count u.net) × (e.to.0 < switch_count u.net)) noted.steps (record { from = s; to = t }) walked.steps_within i in
         record {
           least = record {
             heights = heights_along (IsEdge noted.steps) mixed walked.steps (switch_count u.net) numbers at_u;
             count = found.0;
-            least = each_weaker (IsLeastGuard net class.entry.switch noted) (λ (p : Position). IsLeastBefore class.entry.switch mixed p.waypoint p.earlier p.set)
-                (λ p least. least_along (IsEdge noted.steps) mixed walked.steps class.entry.switch p.waypoint p.earlier p.set least.least) (positions duties.chains sets) found.1;
+            least = each_weaker (IsLeastGuard net class.entry.switch noted) (λ (p : Position). IsLeastBefore class.entry.switch mixed p.item p.earlier p.set)
+                (λ p least. least_along (IsEdge noted.steps) mixed walked.steps class.entry.switch p.item p.earlier p.set least.least) (positions duties.chains sets) found.1;
           };
-          safe = safe_of numbers sets (falls_by_heights (IsEdge noted.steps) numbers (switch_count u.net) within at_u) drops found.0
+          safe = safe_of numbers sets (falls_by_heights (IsEdge noted.steps) numbers (switch_count u.net) within at_u) drops elsewhere found.0
               (each_weaker (IsLeastGuard net class.entry.switch noted) (IsGuarded class.entry.switch noted) (λ p least. record { before = least.least.before; keeps = least.keeps }) (positions duties.chains sets) found.1);
           numbering = (at_u.count, small);
           befores = subst (λ (n : Network). AllByRecursion (IsValidBefore n) sets) (sym same)

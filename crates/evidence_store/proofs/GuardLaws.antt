@@ -32,10 +32,10 @@ before_taken sets (suc j) set is =
 
 -- ---- one chain
 
-module _ (P : Position → Type 0) (chain : List SwitchId) (sets : List (List ℕ)) (place : ℕ) where
-  module _ (w : SwitchId) (set : List ℕ) (is : slice_get chain place ≡ Some w) (set_is : slice_get sets place ≡ Some set) where
+module _ (P : Position → Type 0) (chain : List (List SwitchId)) (sets : List (List ℕ)) (place : ℕ) where
+  module _ (w : List SwitchId) (set : List ℕ) (is : slice_get chain place ≡ Some w) (set_is : slice_get sets place ≡ Some set) where
     abbrev here : Position
-    here = record { waypoint = w; earlier = last_or None (take place sets); set = set }
+    here = record { item = w; earlier = last_or None (take place sets); set = set }
 
     as_many : length (take place sets) ≡ length (take place chain)
     as_many =
@@ -46,7 +46,7 @@ module _ (P : Position → Type 0) (chain : List SwitchId) (sets : List (List �
     -- the next position joins those so far
     pub chain_more : AllByRecursion P (chain_positions None (take place chain) (take place sets)) → P here → AllByRecursion P (chain_positions None (take (place + 1) chain) (take (place + 1) sets))
     chain_more so_far next =
-        subst (λ (ws : List SwitchId). AllByRecursion P (chain_positions None ws (take (place + 1) sets))) (sym (take_next chain place w is))
+        subst (λ (ws : List (List SwitchId)). AllByRecursion P (chain_positions None ws (take (place + 1) sets))) (sym (take_next chain place w is))
         (subst (λ (xs : List (List ℕ)). AllByRecursion P (chain_positions None (take place chain ++ w ∷ []) xs)) (sym (take_next sets place set set_is))
         (subst (AllByRecursion P) (sym (chain_split None (take place chain) w [] (take place sets) set [] as_many))
         (each_append P (chain_positions None (take place chain) (take place sets)) (here ∷ []) so_far (next, tt))))
@@ -54,7 +54,7 @@ module _ (P : Position → Type 0) (chain : List SwitchId) (sets : List (List �
     -- one position of the chain
     pub chain_at : AllByRecursion P (chain_positions None chain sets) → P here
     chain_at all =
-        let split = subst (λ (ws : List SwitchId). AllByRecursion P (chain_positions None ws sets)) (split_at chain place w is) all in
+        let split = subst (λ (ws : List (List SwitchId)). AllByRecursion P (chain_positions None ws sets)) (split_at chain place w is) all in
         let both = subst (λ (xs : List (List ℕ)). AllByRecursion P (chain_positions None (take place chain ++ w ∷ drop (suc place) chain) xs)) (split_at sets place set set_is) split in
         let parts = subst (AllByRecursion P) (chain_split None (take place chain) w (drop (suc place) chain) (take place sets) set (drop (suc place) sets) as_many) both in
         (each_last P (chain_positions None (take place chain) (take place sets)) (here ∷ chain_positions (Some set) (drop (suc place) chain) (drop (suc place) sets)) parts).0
@@ -65,7 +65,7 @@ module _ (P : Position → Type 0) (chain : List SwitchId) (sets : List (List �
       let long : length chain ≤ length (take place sets) = omega (arith, length-take place sets) in
       let same : chain_positions None chain sets ≡ chain_positions None chain (take place sets) =
       ap (chain_positions None chain) (sym (take-append-drop place sets)) ∙ chain_longer None chain (take place sets) (drop place sets) long in
-      subst (AllByRecursion P) (sym same) (subst (λ (ws : List SwitchId). AllByRecursion P (chain_positions None ws (take place sets))) (take_all place chain past) so_far)
+      subst (AllByRecursion P) (sym same) (subst (λ (ws : List (List SwitchId)). AllByRecursion P (chain_positions None ws (take place sets))) (take_all place chain past) so_far)
 
 -- ---- sets by their numbers
 

@@ -19,12 +19,12 @@ use Rattle.evidence_store.specs.Last.{SetsState, HoldsSets, noted_as}
 module _ (net : Network) (start : SwitchId) (noted other : WalkState) (p : noted.steps ≡ other.steps) (q : noted.leaving ≡ other.leaving) where
   least_there : (at : Position) → IsLeastGuard net start noted at → IsLeastGuard net start other at
   least_there at least = record {
-    least = subst (λ (es : List Edge). IsLeastBefore start (IsEdge es) at.waypoint at.earlier at.set) p least.least;
+    least = subst (λ (es : List Edge). IsLeastBefore start (IsEdge es) at.item at.earlier at.set) p least.least;
     keeps = λ s leaves. least.keeps s (subst (λ (ls : List SwitchId). IsIn s ls) (sym q) leaves);
     valid = least.valid;
   }
 
-  pub guards_there : (chains : List (List SwitchId)) (sets : List (List ℕ)) → AreGuardsFound net start noted chains (Some sets) → AreGuardsFound net start other chains (Some sets)
+  pub guards_there : (chains : List (List (List SwitchId))) (sets : List (List ℕ)) → AreGuardsFound net start noted chains (Some sets) → AreGuardsFound net start other chains (Some sets)
   guards_there chains sets found = (found.0, each_weaker (IsLeastGuard net start noted) (IsLeastGuard net start other) least_there (positions chains sets) found.1)
 
 -- the sets of a class are those of each class with its start, duties and walks

@@ -34,28 +34,28 @@ module _ {A : Type 0} where
 
 -- ---- the positions of one chain
 
--- the position of a waypoint between others
-pub chain_split : (earlier : Option (List ℕ)) (front : List SwitchId) (w : SwitchId) (back : List SwitchId) (sets : List (List ℕ)) (set : List ℕ) (more : List (List ℕ)) → length sets ≡ length front
+-- the position of an item between others
+pub chain_split : (earlier : Option (List ℕ)) (front : List (List SwitchId)) (w : List SwitchId) (back : List (List SwitchId)) (sets : List (List ℕ)) (set : List ℕ) (more : List (List ℕ)) → length sets ≡ length front
     → chain_positions earlier (front ++ w ∷ back) (sets ++ set ∷ more)
-    ≡ chain_positions earlier front sets ++ (record { waypoint = w; earlier = last_or earlier sets; set = set } ∷ chain_positions (Some set) back more)
+    ≡ chain_positions earlier front sets ++ (record { item = w; earlier = last_or earlier sets; set = set } ∷ chain_positions (Some set) back more)
 chain_split earlier [] w back [] set more e = refl
 chain_split earlier [] w back (x ∷ sets) set more e = absurd (omega arith)
 chain_split earlier (v ∷ front) w back [] set more e = absurd (omega arith)
 chain_split earlier (v ∷ front) w back (x ∷ sets) set more e =
-    let first : Position = record { waypoint = v; earlier = earlier; set = x } in
+    let first : Position = record { item = v; earlier = earlier; set = x } in
     ap (λ (ps : List Position). first ∷ ps) (chain_split (Some x) front w back sets set more (omega arith))
 
 -- sets that are left over change nothing
-pub chain_longer : (earlier : Option (List ℕ)) (chain : List SwitchId) (sets more : List (List ℕ)) → length chain ≤ length sets → chain_positions earlier chain (sets ++ more) ≡ chain_positions earlier chain sets
+pub chain_longer : (earlier : Option (List ℕ)) (chain : List (List SwitchId)) (sets more : List (List ℕ)) → length chain ≤ length sets → chain_positions earlier chain (sets ++ more) ≡ chain_positions earlier chain sets
 chain_longer earlier [] sets more le = refl
 chain_longer earlier (w ∷ chain) [] more le = absurd (omega arith)
 chain_longer earlier (w ∷ chain) (x ∷ sets) more le =
-    let first : Position = record { waypoint = w; earlier = earlier; set = x } in ap (λ (ps : List Position). first ∷ ps) (chain_longer (Some x) chain sets more (omega arith))
+    let first : Position = record { item = w; earlier = earlier; set = x } in ap (λ (ps : List Position). first ∷ ps) (chain_longer (Some x) chain sets more (omega arith))
 
 -- ---- one chain after another
 
 -- the positions of chains and of others behind them
-pub positions_append : (chains others : List (List SwitchId)) (sets : List (List ℕ)) → positions (chains ++ others) sets ≡ positions chains sets ++ positions others (drop (position_count chains) sets)
+pub positions_append : (chains others : List (List (List SwitchId))) (sets : List (List ℕ)) → positions (chains ++ others) sets ≡ positions chains sets ++ positions others (drop (position_count chains) sets)
 positions_append [] others sets = refl
 positions_append (c ∷ chains) others sets =
     let first = chain_positions None c sets in
@@ -67,7 +67,7 @@ positions_append (c ∷ chains) others sets =
     ∙ ap (λ (xs : List (List ℕ)). (first ++ positions chains rest) ++ positions others xs) far
 
 -- sets that are left over change nothing
-pub positions_longer : (chains : List (List SwitchId)) (sets more : List (List ℕ)) → position_count chains ≤ length sets → positions chains (sets ++ more) ≡ positions chains sets
+pub positions_longer : (chains : List (List (List SwitchId))) (sets more : List (List ℕ)) → position_count chains ≤ length sets → positions chains (sets ++ more) ≡ positions chains sets
 positions_longer [] sets more le = refl
 positions_longer (c ∷ chains) sets more le =
     let b = count_chain c chains in
@@ -76,14 +76,14 @@ positions_longer (c ∷ chains) sets more le =
     ∙ ap (λ (xs : List (List ℕ)). chain_positions None c sets ++ positions chains xs) (drop_within (length c) sets more (omega arith))
     ∙ ap (λ (ps : List Position). chain_positions None c sets ++ ps) (positions_longer chains (drop (length c) sets) more (omega arith))
 
-module _ (P : Position → Type 0) (chains : List (List SwitchId)) (i : ℕ) (chain : List SwitchId) (is : slice_get chains i ≡ Some chain) (sets : List (List ℕ)) where
+module _ (P : Position → Type 0) (chains : List (List (List SwitchId))) (i : ℕ) (chain : List (List SwitchId)) (is : slice_get chains i ≡ Some chain) (sets : List (List ℕ)) where
   abbrev rest : List (List ℕ)
   rest = drop (position_count (take i chains)) sets
 
   -- with the positions of the next chain all of those so far
   pub positions_more : AllByRecursion P (positions (take i chains) sets) → AllByRecursion P (chain_positions None chain rest) → AllByRecursion P (positions (take (i + 1) chains) sets)
   positions_more first next =
-      subst (λ (cs : List (List SwitchId)). AllByRecursion P (positions cs sets)) (sym (take_next chains i chain is))
+      subst (λ (cs : List (List (List SwitchId))). AllByRecursion P (positions cs sets)) (sym (take_next chains i chain is))
       (subst (AllByRecursion P) (sym (positions_append (take i chains) (chain ∷ []) sets))
       (each_append P (positions (take i chains) sets) (chain_positions None chain rest ++ []) first (each_append P (chain_positions None chain rest) [] next tt)))
 
@@ -91,6 +91,6 @@ module _ (P : Position → Type 0) (chains : List (List SwitchId)) (i : ℕ) (ch
   pub positions_of : AllByRecursion P (positions chains sets) → AllByRecursion P (chain_positions None chain rest)
   positions_of all =
       let back = positions (drop (suc i) chains) (drop (length chain) rest) in
-      let split = subst (λ (cs : List (List SwitchId)). AllByRecursion P (positions cs sets)) (split_at chains i chain is) all in
+      let split = subst (λ (cs : List (List (List SwitchId))). AllByRecursion P (positions cs sets)) (split_at chains i chain is) all in
       let parts = subst (AllByRecursion P) (positions_append (take i chains) (chain ∷ drop (suc i) chains) sets) split in
       each_first P (chain_positions None chain rest) back (each_last P (positions (take i chains) sets) (chain_positions None chain rest ++ back) parts)

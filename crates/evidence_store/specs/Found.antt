@@ -15,7 +15,7 @@ use Rattle.evidence_store.specs.declared.class_evidence.ClassEvidence.{ClassEvid
 
 -- the set of each position is the least, given the set of the position before it
 abbrev pub AreLeast : Rollout → ℕ → ℕ → Place → List Position → Type 0
-AreLeast u k dst entry ps = AllByRecursion (λ p. IsLeastBefore entry.switch (IsMixedStep u k dst entry) p.waypoint p.earlier p.set) ps
+AreLeast u k dst entry ps = AllByRecursion (λ p. IsLeastBefore entry.switch (IsMixedStep u k dst entry) p.item p.earlier p.set) ps
 
 -- the heights of the switches along the steps of the mixed walks of a class in round k, and the least before set of each position of its chains
 pub record IsLeastEvidence (u : Rollout) (k : ℕ) (class : Class) (duties : PacketDuties) (numbers : List ℕ) (sets : List (List ℕ)) : Type 0 where

@@ -19,7 +19,7 @@ pub record SetsState : Type 0 where
 
 -- what is noted of walks with these steps, on which a packet may leave at these switches
 abbrev pub noted_as : List Edge → List SwitchId → WalkState
-noted_as steps leaving = record { places = []; steps = steps; leaving = leaving; dropping = [] }
+noted_as steps leaving = record { places = []; steps = steps; leaving = leaving; dropping = []; exits = [] }
 
 -- the class is one of these, and the sets are the least guards of its positions on its walks
 pub record HoldsSets (net : Network) (d : ClassDuties) (s : SetsState) : Type 0 where

@@ -1,5 +1,5 @@
 //! Evidence that keeps a class safe in a round of an ordered plan.
-ghost use Rattle.std.specs.Prelude.{◌≡◌, ◌↔◌, ℕ, ◌<◌, ◌≤◌, List, length, All, IsTrue, IfOk, OnOk, slice_get, Some};
+ghost use Rattle.std.specs.Prelude.{◌≡◌, ◌↔◌, ℕ, ◌<◌, ◌≤◌, List, length, All, IsTrue, IfOk, OnOk, OnErr, slice_get, Some};
 ghost use Rattle.std.specs.List.{AllByRecursion, AllZip};
 ghost use Rattle.topology.specs.Networks.{switch_count};
 ghost use Rattle.dest_classes.specs.Classes.{class_count};
@@ -12,7 +12,7 @@ ghost use Rattle.evidence_store.specs.Found.{IsFound};
 ghost use Rattle.evidence_store.specs.Last.{HoldsLast};
 
 use crate::last_sets::LastSets;
-use crate::safe::{all_lower, drops_what_must_arrive, guards_all};
+use crate::safe::{all_lower, drops_what_must_arrive, guards_all, leaves_elsewhere};
 use acyclic_numbering::{Numbered, Numbering};
 use certificates::Befores;
 use check_reasons::has_positions;
@@ -45,10 +45,14 @@ fn keeps_range(_numbers: &[u16])
 {}
 
 /// Evidence that keeps the class safe in the round whose mixed walks of it were walked last: the heights of the switches
-/// and the least before sets. None where no numbering and no before sets keep it safe: the steps have a cycle, or a packet
-/// that must arrive may be discarded, or may leave without having met a waypoint. Where the class has the start, the duties
-/// and the walks of one for which least before sets are kept, it takes these. Otherwise it takes time by the
-/// switches times the steps for each position; for the heights by the steps where these stand in the order of a walk.
+/// and the least before sets. None where no numbering and no before sets keep it safe. So it is where a packet may leave by
+/// a port that is none of the exits, where one that must arrive may be discarded, and where the steps have a cycle. So it is
+/// too where a packet may leave without having met an item of a chain.
+///
+/// Where the class has the start, the duties and the walks of one for which least before sets are kept, it takes these.
+/// Otherwise it takes time by the switches times the steps for each position; for the heights by the steps where these stand
+/// in the order of a walk. After a refusal those
+/// sets are kept that were kept before.
 pub fn evidence_by_last(
     alloc: Global,
     net: &Net,
@@ -69,8 +73,12 @@ pub fn evidence_by_last(
         → IsFound u k numbered.class
         (duties_of duties.now.demands numbered.class.entry numbered.class.first) found) }
     ensures last { OnOk result (HoldsLast net.now duties.now last.new) }
+    ensures err { OnErr result (last.new ≡ last.old) }
 {
     net.keeps_rules();
+    if leaves_elsewhere(duties, numbered, walk) {
+        return Ok(None);
+    }
     if drops_what_must_arrive(duties, numbered, walk) {
         return Ok(None);
     }
@@ -112,6 +120,9 @@ pub fn keeps_safe(
 {
     net.keeps_rules();
     if !all_lower(named.numbering, walk.steps()) {
+        return false;
+    }
+    if leaves_elsewhere(duties, numbered, walk) {
         return false;
     }
     if drops_what_must_arrive(duties, numbered, walk) {

@@ -1,5 +1,5 @@
 //! The least before sets that were found last: classes that differ in the address often have the walks and the duties of one before.
-ghost use Rattle.std.specs.Prelude.{◌≡◌, ◌<◌, List, ℕ, true, IfOk, IfSome, OnOk, Some};
+ghost use Rattle.std.specs.Prelude.{◌≡◌, ◌<◌, List, ℕ, true, IfOk, IfSome, OnOk, OnErr, Some};
 ghost use Rattle.topology.specs.Networks.{Network, switch_count};
 ghost use Rattle.dest_classes.specs.Classes.{class_count};
 ghost use Rattle.dest_classes.specs.Numbered.{IsNumbered};
@@ -152,7 +152,8 @@ impl LastSets {
         Ok(None)
     }
 
-    /// Keeps the sets of a class, if it has any, where its walks are those that were walked last.
+    /// Keeps the sets of a class, if it has any, where its walks are those that were walked last. After a refusal those are kept
+    /// that were kept before.
     fn keep(
         &mut self,
         alloc: Global,
@@ -160,12 +161,13 @@ impl LastSets {
         numbered: NumberedClass,
         befores: &Befores,
     ) -> Result<(), Memory>
-        ensures { OnOk result
+        ensures last { OnOk result
             ((net : Network) (d : ClassDuties) → HoldsLast net d self.old
             → IsNumbered d.classes numbered
             → AreGuardsFound net numbered.class.entry.switch walk.now
             (duties_of d.demands numbered.class.entry numbered.class.first).chains
             (Some befores.now) → HoldsLast net d self.new) }
+        ensures err { OnErr result (self.new ≡ self.old) }
     {
         if befores.list().is_empty() {
             return Ok(());
@@ -182,7 +184,7 @@ impl LastSets {
     }
 
     /// The least before sets of all positions of a class, as `least_befores` finds them; they are not looked for where they are
-    /// among those that are kept.
+    /// among those that are kept. After a refusal those are kept that were kept before.
     pub(crate) fn least_befores(
         &mut self,
         alloc: Global,
@@ -200,6 +202,7 @@ impl LastSets {
             (AreGuardsFound net.now numbered.class.entry.switch walk.now
             (duties_of duties.now.demands numbered.class.entry numbered.class.first).chains) }
         ensures last { OnOk result (HoldsLast net.now duties.now self.new) }
+        ensures err { OnErr result (self.new ≡ self.old) }
     {
         if let Some(befores) = self.sets_of(alloc, duties, walk, numbered)? {
             return Ok(Some(befores));

@@ -13,7 +13,7 @@ use certificates::Befores;
 use demands::Duties;
 use dest_classes::NumberedClass;
 use mixed_walks::WalkRoom;
-use net_base::{Memory, SwitchId};
+use net_base::{Memory, SwitchGroup, SwitchId};
 use std::alloc::Global;
 use topology::Net;
 use waypoint_evidence::{Before, Befored, before_set};
@@ -25,32 +25,24 @@ fn keeps_order(set: &Before)
     let _ = set.marks();
 }
 
-/// The least before set of a waypoint, where no packet leaves from it. None where no set guards the waypoint, even for a
+/// The least before set of an item of a chain, where no packet leaves from it. None where no set guards the item, even for a
 /// greater set before.
 fn least_guard(
     alloc: Global,
     net: &Net,
     walk: &WalkRoom,
     start: SwitchId,
-    waypoint: SwitchId,
+    item: &SwitchGroup,
     earlier: Option<&Before>,
 ) -> Result<Option<Before>, Memory>
     requires start { start.0 < switch_count net.now }
     requires within { AreStepsBelow (switch_count net.now) walk.now }
     ensures { IfOk result
-        (IsGuardFound net.now start walk.now waypoint (option_copied earlier.entry)) }
+        (IsGuardFound net.now start walk.now item.now (option_copied earlier.entry)) }
 {
     let switches = net.switches();
     let steps = walk.steps();
-    match before_set(
-        alloc,
-        switches,
-        start,
-        steps,
-        walk.leaving(),
-        waypoint,
-        earlier,
-    )? {
+    match before_set(alloc, switches, start, steps, walk.leaving(), item, earlier)? {
         Befored::Set(set) => {
             keeps_order(&set);
             Ok(Some(set))
@@ -72,22 +64,22 @@ fn last_set(befores: &Befores, place: usize) -> Option<&Before>
     }
 }
 
-/// Adds the least before sets of a chain, as long as each guards its waypoint. False where no sets guard the chain.
+/// Adds the least before sets of a chain, as long as each guards its item. False where no sets guard the chain.
 fn add_chain(
     alloc: Global,
     net: &Net,
     walk: &WalkRoom,
     start: SwitchId,
-    chain: &[SwitchId],
+    chain: &[SwitchGroup],
     befores: &mut Befores,
 ) -> Result<bool, Memory>
     requires start { start.0 < switch_count net.now }
     requires within { AreStepsBelow (switch_count net.now) walk.now }
     ensures { IfOk result (IsChainFound net.now start walk.now chain.now befores.old befores.new) }
 {
-    for (place, waypoint) in chain.iter().enumerate() {
+    for (place, item) in chain.iter().enumerate() {
         let earlier = last_set(befores, place);
-        match least_guard(alloc, net, walk, start, *waypoint, earlier)? {
+        match least_guard(alloc, net, walk, start, item, earlier)? {
             Some(set) => befores.add(set)?,
             None => return Ok(false),
         }
@@ -95,7 +87,7 @@ fn add_chain(
     Ok(true)
 }
 
-/// Adds the least before sets of all positions of a class, as long as each guards its waypoint. False where no sets guard them.
+/// Adds the least before sets of all positions of a class, as long as each guards its item. False where no sets guard them.
 fn add_chains(
     alloc: Global,
     net: &Net,

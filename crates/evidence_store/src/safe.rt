@@ -1,11 +1,12 @@
 //! Whether a numbering and before sets keep a class safe.
-ghost use Rattle.std.specs.Prelude.{◌≡◌, ◌↔◌, ◌<◌, ◌≤◌, length, None, All, IsTrue};
+ghost use Rattle.std.specs.Prelude.{◌≡◌, ◌↔◌, ◌<◌, ◌≤◌, false, length, None, All, IsTrue};
 ghost use Rattle.std.specs.List.{AllByRecursion};
 ghost use Rattle.net_base.specs.Members.{IsIn};
+ghost use Rattle.net_base.specs.declared.ids.Stop.{Stop};
 ghost use Rattle.net_base.specs.declared.ids.SwitchId.{SwitchId};
 ghost use Rattle.acyclic_numbering.specs.Heights.{IsEdge, Falls};
 ghost use Rattle.dest_classes.specs.Classes.{class_count};
-ghost use Rattle.demands.specs.Duties.{duties_of};
+ghost use Rattle.demands.specs.Duties.{duties_of, lets};
 ghost use Rattle.certificates.specs.Ordered.{chain_positions, positions};
 ghost use Rattle.dest_classes.specs.Numbered.{IsNumbered};
 ghost use Rattle.check_reasons.specs.Positions.{position_count, sets_of};
@@ -17,7 +18,7 @@ use check_reasons::{earlier_set, from_place, set_at};
 use demands::Duties;
 use dest_classes::NumberedClass;
 use mixed_walks::WalkRoom;
-use net_base::SwitchId;
+use net_base::{Stop, SwitchGroup, SwitchId};
 use waypoint_evidence::{Before, closed};
 
 /// Whether each step goes to a lower number.
@@ -49,11 +50,37 @@ pub(crate) fn drops_what_must_arrive(
     duties.must_arrive(numbered.number) && !walk.dropping().is_empty()
 }
 
+/// Whether a packet of the class may leave by a port that is none of its exits. The ports are looked at only where not all
+/// host ports are exits.
+pub(crate) fn leaves_elsewhere(duties: &Duties, numbered: NumberedClass, walk: &WalkRoom) -> bool
+    requires number { numbered.number < class_count duties.now.classes }
+    requires class { IsNumbered duties.now.classes numbered }
+    ensures { IsTrue result ↔ ((stop : Stop) × IsIn stop walk.now.exits
+        × (lets (duties_of duties.now.demands numbered.class.entry numbered.class.first).exits stop
+        ≡ false)) }
+{
+    let number = numbered.number;
+    if !duties.has_exits(number) {
+        return false;
+    }
+    let exits = walk.exits();
+    for place in exits {
+        let stop = Stop {
+            switch: place.switch,
+            port: place.port,
+        };
+        if !duties.lets(number, stop) {
+            return true;
+        }
+    }
+    false
+}
+
 /// Whether the before sets with the first of these numbers guard the positions of a chain.
 fn guards_chain(
     walk: &WalkRoom,
     start: SwitchId,
-    chain: &[SwitchId],
+    chain: &[SwitchGroup],
     befores: &[Before],
     indices: &[u64],
 ) -> bool
@@ -65,10 +92,10 @@ fn guards_chain(
         ↔ AllByRecursion (IsGuarded start walk.now)
         (chain_positions None chain.now (sets_of befores.now indices.now)) }
 {
-    for (place, waypoint) in chain.iter().enumerate() {
+    for (place, item) in chain.iter().enumerate() {
         let set = set_at(befores, indices, place);
         let earlier = earlier_set(befores, indices, place);
-        if !closed(set, start, walk.steps(), walk.leaving(), *waypoint, earlier) {
+        if !closed(set, start, walk.steps(), walk.leaving(), item, earlier) {
             return false;
         }
     }

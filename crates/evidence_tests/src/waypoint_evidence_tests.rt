@@ -1,8 +1,9 @@
-//! Sets before waypoints, and ways round these.
-ghost use Rattle.std.specs.Prelude.{◌<◌, All};
+//! Sets before items of chains, and ways round these.
+ghost use Rattle.std.specs.Prelude.{◌<◌, length, All};
+ghost use Rattle.net_base.specs.Switches.{most_switches};
 
 use acyclic_numbering::Edge;
-use net_base::{Memory, SwitchId};
+use net_base::{Memory, SwitchGroup, SwitchId};
 use std::alloc::Global;
 use std::process::Abort;
 use waypoint_evidence::{Before, Befored, before_set};
@@ -71,14 +72,18 @@ const PAST: [Edge; 5] = [
     },
 ];
 
-/// The set before a waypoint of the line, from its first switch to its last.
+/// The set before an item of the line, from its first switch to its last.
 fn before_in_line(
     alloc: Global,
-    waypoint: SwitchId,
+    item: &[SwitchId],
     earlier: Option<&Before>,
-) -> Result<Befored, Memory> {
+) -> Result<Befored, Memory>
+    requires some { 0 < length item.now }
+    requires below { All (λ s. s.0 < most_switches) item.now }
+{
     let leaving = [SwitchId(3)];
-    before_set(alloc, 4, SwitchId(0), &LINE, &leaving, waypoint, earlier)
+    let item = SwitchGroup::of_switches(alloc, item)?;
+    before_set(alloc, 4, SwitchId(0), &LINE, &leaving, &item, earlier)
 }
 
 /// The set before the waypoint of the detour.
@@ -86,7 +91,8 @@ fn before_in_detour(alloc: Global, steps: &[Edge]) -> Result<Befored, Memory>
     requires { All (λ e. (e.from.0 < 5) × (e.to.0 < 5)) steps.now }
 {
     let leaving = [SwitchId(4)];
-    before_set(alloc, 5, SwitchId(0), steps, &leaving, SwitchId(2), None)
+    let item = SwitchGroup::of_switch(alloc, SwitchId(2))?;
+    before_set(alloc, 5, SwitchId(0), steps, &leaving, &item, None)
 }
 
 /// Of the first five switches it holds those below a number.
@@ -112,13 +118,13 @@ fn is_way_round(rt: &impl Abort, found: &Befored, want: &[SwitchId]) {
 
 #[test]
 fn the_set_ends_before_the_waypoint(rt: HostRuntime) {
-    let found = before_in_line(rt.alloc(), SwitchId(2), None).expect(&rt, "memory");
+    let found = before_in_line(rt.alloc(), &[SwitchId(2)], None).expect(&rt, "memory");
     is_set(&rt, &found, 2);
 }
 
 #[test]
 fn a_way_round_misses_the_waypoint(rt: HostRuntime) {
-    let found = before_in_line(rt.alloc(), SwitchId(1), None).expect(&rt, "memory");
+    let found = before_in_line(rt.alloc(), &[SwitchId(1)], None).expect(&rt, "memory");
     is_way_round(&rt, &found, &[SwitchId(0), SwitchId(2), SwitchId(3)]);
 }
 
@@ -126,8 +132,22 @@ fn a_way_round_misses_the_waypoint(rt: HostRuntime) {
 fn a_second_waypoint_is_met_from_outside_the_first_set(rt: HostRuntime) {
     let mut first = Before::none();
     first.put(SwitchId(0));
-    let found = before_in_line(rt.alloc(), SwitchId(2), Some(&first)).expect(&rt, "memory");
+    let found = before_in_line(rt.alloc(), &[SwitchId(2)], Some(&first)).expect(&rt, "memory");
     is_way_round(&rt, &found, &[SwitchId(0), SwitchId(2), SwitchId(3)]);
+}
+
+#[test]
+fn either_switch_of_an_item_will_do(rt: HostRuntime) {
+    let item = [SwitchId(2), SwitchId(1)];
+    let found = before_in_line(rt.alloc(), &item, None).expect(&rt, "memory");
+    is_set(&rt, &found, 1);
+}
+
+#[test]
+fn a_first_item_may_have_the_start(rt: HostRuntime) {
+    let item = [SwitchId(3), SwitchId(0)];
+    let found = before_in_line(rt.alloc(), &item, None).expect(&rt, "memory");
+    is_set(&rt, &found, 0);
 }
 
 #[test]

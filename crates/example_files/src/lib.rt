@@ -5,6 +5,7 @@
 mod answer;
 pub mod detour;
 pub mod detour_plans;
+pub mod exits;
 pub mod four_ports;
 pub mod halves;
 mod held;

@@ -3,9 +3,9 @@ use Rattle.std.proofs.Common.{◌≡◌, ℕ, zero, suc, ◌<◌, ◌≤◌, fal
 use Rattle.std.specs.Prelude.{slice_get, Some, IsTrue, flat_map}
 use Rattle.std.specs.List.{AllByRecursion}
 use Rattle.std.proofs.Math.ListN.{get_or-eq_default}
-use Rattle.std.proofs.lemmas.Bool.{cases_lt, cases_eq, false≢true}
+use Rattle.std.proofs.lemmas.Bool.{cases_lt, false≢true, true_from_ne_false}
 use Rattle.net_base.specs.Blocks.{IsSameClass, in_block}
-use Rattle.net_base.specs.Members.{IsDistinct, IsSameSet, IsSubsequence}
+use Rattle.net_base.specs.Members.{IsDistinct, IsSameSet, IsSubsequence, MeetsInOrder}
 use Rattle.net_base.specs.Walks.{end_of}
 use Rattle.net_base.specs.declared.ids.Place.{Place}
 use Rattle.net_base.specs.declared.ids.Port.{Port}
@@ -24,13 +24,14 @@ use Rattle.dest_classes.specs.Classes.{IsClass}
 use Rattle.dest_classes.specs.declared.Class.{Class}
 use Rattle.dest_classes.proofs.ClassLaws.{class_of}
 use Rattle.dest_classes.proofs.EntryLaws.{class_entry, class_small}
-use Rattle.demands.specs.Duties.{DemandView, PacketDuties, duties_of}
-use Rattle.demands.specs.Good.{IsGood, MeetsChains, IsDropped, switches_of}
+use Rattle.demands.specs.Duties.{DemandView, PacketDuties, lets, duties_of}
+use Rattle.demands.specs.Good.{IsGood, MeetsChains, LeavesAtExit, IsDropped, switches_of}
 use Rattle.demands.proofs.DutyLaws.{duties_same}
 use Rattle.demands.proofs.MeetsLaws.{good_meets}
 use Rattle.demands.proofs.RowLaws.{each_there}
 use Rattle.config_check.specs.Everywhere.{HasPrefixes}
 use Rattle.config_check.proofs.AddressLaws.{good_everywhere}
+use Rattle.config_check.proofs.ChainLaws.{met_or_not}
 use Rattle.update_model.specs.Changes.{changes_at, round_after, rule_of, rules_after}
 use Rattle.update_model.specs.Mixtures.{Rollout, tables_before, IsMixture, IsPossible, MayGo, IsMixedWalk, AreGoodRounds}
 use Rattle.update_model.specs.OneRound.{WalkedOneRound, EndWasPossible}
@@ -48,7 +49,6 @@ use Rattle.certificates.proofs.Consistency.{switches_are, certified_is_consisten
 use Rattle.certificates.proofs.SameClass.{same_outcomes}
 use Rattle.breaking_walks.specs.Breaking.{HasBreakingWalk}
 use Rattle.breaking_walks.proofs.CutLaws.{distinct_next, breaks_cut}
-use Rattle.breaking_walks.proofs.ChainLaws.{met_along, met_whole}
 use Rattle.plan_checker.specs.Checking.{EndsAreGood}
 use Rattle.explain_command.specs.Explained.{NothingBreaks}
 
@@ -86,18 +86,25 @@ module _ (u : Rollout) (k dst : ℕ) (entry : Place) (duties : PacketDuties) (no
 
   -- where a packet may leave, each chain is met
   chains_met : (rest : List Place) → IsMixedWalk u k dst entry rest → (port : Port) (vlan : Vlan) → IsPossible u k dst (end_of entry rest) (Leave port vlan)
-      → AllByRecursion (λ chain. IsSubsequence chain (switches_along entry rest)) duties.chains
+      → AllByRecursion (λ chain. MeetsInOrder chain (switches_along entry rest)) duties.chains
   chains_met rest walk port vlan leaves =
       let switches = switches_along entry rest in
-      each_from_in (λ chain. IsSubsequence chain switches) duties.chains
-      (λ chain asked. elim (cases_eq (met_along chain 0 switches) (length chain)) [
-        | inl whole ↦ (met_whole chain switches).1 whole
-        | inr part ↦ absurd (none (record {
+      each_from_in (λ chain. MeetsInOrder chain switches) duties.chains
+      (λ chain asked. elim (met_or_not chain switches) [
+        | inl met ↦ met
+        | inr missed ↦ absurd (none (record {
           rest = rest;
           walk = walk;
-          breaks = inr (inl (record { port = port; vlan = vlan; leaves = leaves; misses = record { chain = chain; asked = asked; missed = λ met. part ((met_whole chain switches).0 met) } }));
+          breaks = inr (inl (record { port = port; vlan = vlan; leaves = leaves; bad = inr (record { chain = chain; asked = asked; missed = missed }) }));
         }))
       ])
+
+  -- and the port is an exit
+  left_at_exit : (rest : List Place) → IsMixedWalk u k dst entry rest → (port : Port) (vlan : Vlan) → IsPossible u k dst (end_of entry rest) (Leave port vlan)
+      → IsTrue (lets duties.exits (record { switch = (end_of entry rest).switch; port = port }))
+  left_at_exit rest walk port vlan leaves =
+      true_from_ne_false (lets duties.exits (record { switch = (end_of entry rest).switch; port = port }))
+      (λ out. none (record { rest = rest; walk = walk; breaks = inr (inl (record { port = port; vlan = vlan; leaves = leaves; bad = inl out })) }))
 
   -- it is discarded nowhere where it must arrive
   never_dropped : (rest : List Place) → IsMixedWalk u k dst entry rest → IsPossible u k dst (end_of entry rest) Discard → ¬ IsTrue duties.arrive
@@ -138,6 +145,15 @@ module _ (t : Task) where
     safe_chains (Left switch port vlan) was =
         chains_met (rollout t) k first p.entry (duties_of t.update.demands p.entry first) none walked.rest walk_back port vlan (end_back (Leave port vlan) was.1)
 
+    safe_exits : (ended : Ended) → EndWasPossible (rollout t) p ended → LeavesAtExit (duties_of t.update.demands p.entry first).exits ended
+    safe_exits UnderWay was = tt
+    safe_exits Lost was = tt
+    safe_exits (Dropped switch) was = tt
+    safe_exits (Left switch port vlan) was =
+        let here : (end_of p.entry walked.rest).switch ≡ switch = ap (λ (x : Place). x.switch) walked.at_is ∙ sym was.0 in
+        subst (λ s. IsTrue (lets (duties_of t.update.demands p.entry first).exits (record { switch = s; port = port }))) here
+        (left_at_exit (rollout t) k first p.entry (duties_of t.update.demands p.entry first) none walked.rest walk_back port vlan (end_back (Leave port vlan) was.1))
+
     safe_arrives : (ended : Ended) → EndWasPossible (rollout t) p ended → IsTrue (duties_of t.update.demands p.entry first).arrive → ¬ IsDropped ended
     safe_arrives UnderWay was must = λ h. h
     safe_arrives Lost was must = λ h. h
@@ -149,6 +165,7 @@ module _ (t : Task) where
     safe_good = subst (λ d. IsGood d (trace_of p)) (duties_alike first p.dst same p.entry) (record {
       distinct = subst IsDistinct (sym switches) (distinct_walk (rollout t) k first p.entry (duties_of t.update.demands p.entry first) none walked.rest walk_back);
       chains = subst (λ s. MeetsChains (duties_of t.update.demands p.entry first).chains s p.ended) (sym switches) (safe_chains p.ended walked.ended);
+      exits = safe_exits p.ended walked.ended;
       arrives = safe_arrives p.ended walked.ended;
     })
 

@@ -25,8 +25,9 @@ pub record DriveWirePromise (files : Files) (names : DriveNames) (old new : Opti
   -- What is said above (`DrivePromise`) holds.
   pub of_files : DrivePromise files names old new result
   -- On the wire (crates/law_wire/specs): where the plan can be driven, in every state each packet is as `check` promises, and no premise
-  -- speaks of changes in force. Each switch has the table of the logged events with some of the pending changes made besides, within its
-  -- capacity, and all that was asked for once its answer was taken. Where nothing is left to do for any switch no round runs.
+  -- speaks of changes in force. Each switch has the table that `tables` gives for the events so far, with some of the changes made that it
+  -- names as pending, within its capacity, and all that was asked for once its answer was taken. Where nothing is left to do for any switch
+  -- no round runs.
   pub safe_on_the_wire : (m : DriveMeaning) → FilesAreDrivable files names m → IsWireConsistent m.check.update m.check.plan.rounds (is_two_phase m.check.plan.evidence)
   pub tables_on_the_wire : (m : DriveMeaning) → FilesAreDrivable files names m → AreTablesOnWire (rollout (task_in m.check))
   pub never_stuck : (m : DriveMeaning) → FilesAreDrivable files names m → IsNeverStuck (rollout (task_in m.check))

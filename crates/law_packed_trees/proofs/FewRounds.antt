@@ -15,7 +15,6 @@ use Rattle.path_walk.specs.declared.Ended.{Ended}
 use Rattle.path_walk.specs.declared.Ended.TheVariants as end
 use Rattle.dest_classes.specs.Classes.{IsClass}
 use Rattle.dest_classes.specs.declared.Class.{Class}
-use Rattle.config_check.specs.Broken.{IsLeft}
 use Rattle.demands.specs.Good.{IsDropped}
 use Rattle.update_model.specs.Changes.{tables_after}
 use Rattle.update_model.specs.declared.Change.{Change}
@@ -26,13 +25,13 @@ use Rattle.certificates.specs.Trees.{IsRemainingReplace}
 use Rattle.certificates.proofs.TreePaths.{fine_from_good}
 use Rattle.law_packed_rounds.specs.Packing.{ArePacked, IsPackedRound}
 use Rattle.law_packed_trees.specs.TreeUpdates.{IsUserTreeUpdate}
-use Rattle.law_packed_trees.specs.Bounds.{NewPath, places_of, differ_at, count_differing, SomeDropDiffers, SomeIsUnmet, AreBounds}
+use Rattle.law_packed_trees.specs.Bounds.{NewPath, places_of, differ_at, count_differing, SomeDropDiffers, SomeIsUnmet, AreBounds, HasLeft}
 use Rattle.law_packed_trees.proofs.Picks.{rule_picked, new_picked}
 use Rattle.law_packed_trees.proofs.TreePlaces.{fewer_pass, one_fewer_passes, none_pass, last_without, one_walk, path_ends, Agrees, cases_agree, differ_false, differ_true, agrees_from}
 use Rattle.law_packed_trees.proofs.Taken.{good, Leaving, Dropping, kind, last_taken, entry_taken, all_taken, renewed, stays_new, old_before, made_gone}
 use Rattle.law_packed_trees.proofs.NeverStuck.{to, Present, round_remains, round_full, round_stands, after_round}
 
-never_both : (e : Ended) → IsLeft e → IsDropped e → ⊥
+never_both : (e : Ended) → HasLeft e → IsDropped e → ⊥
 never_both (end.Left s port vlan) left dropped = dropped
 never_both (end.Dropped s) left dropped = left
 never_both end.UnderWay left dropped = left
@@ -68,7 +67,7 @@ module _ (t : Task) (is : IsUserTreeUpdate t) where
   abbrev Drops : (q : NewPath t) → Type 0
   Drops q = Dropping t is.tree is.net is.old_user is.new_user q.number q.class q.is_class
 
-  leaves_where : (q : NewPath t) → IsLeft q.trace.ended → Leaves q
+  leaves_where : (q : NewPath t) → HasLeft q.trace.ended → Leaves q
   leaves_where q left =
       elim (kind t is.tree is.net is.old_user is.new_user q.number q.class q.is_class) [
         | inl leaving ↦ leaving
@@ -78,7 +77,7 @@ module _ (t : Task) (is : IsUserTreeUpdate t) where
   drops_where : (q : NewPath t) → IsDropped q.trace.ended → Drops q
   drops_where q dropped =
       elim (kind t is.tree is.net is.old_user is.new_user q.number q.class q.is_class) [
-        | inl leaving ↦ absurd (never_both q.trace.ended (subst IsLeft (sym (same_ended q)) leaving.left) dropped)
+        | inl leaving ↦ absurd (never_both q.trace.ended (subst HasLeft (sym (same_ended q)) leaving.left) dropped)
         | inr dropping ↦ dropping
       ]
 
@@ -94,7 +93,7 @@ module _ (t : Task) (is : IsUserTreeUpdate t) where
     abbrev LeavingNew : Type 0
     LeavingNew = (n : ℕ) (class : Class) (is_class : Class_is n class) → Leaves (path_of n class is_class) → NewAlong n class (path_of n class is_class).path.rest
 
-    leaving_new : ((q : NewPath t) → IsLeft q.trace.ended → count_differing t tables q ≤ 0) → LeavingNew
+    leaving_new : ((q : NewPath t) → HasLeft q.trace.ended → count_differing t tables q ≤ 0) → LeavingNew
     leaving_new none n class is_class leaving =
         let q = path_of n class is_class in
         each_from_in (Agrees tables t.update.new class.first) (places_of t q)
@@ -181,7 +180,7 @@ module _ (t : Task) (is : IsUserTreeUpdate t) where
           none_left q all = nothing q (places_of t q) all
 
       -- the same of any new path
-      leaving_fewer : (most : ℕ) → ((q : NewPath t) → IsLeft q.trace.ended → count_differing t tables q ≤ suc most) → (q : NewPath t) → IsLeft q.trace.ended → count_differing t then q ≤ most
+      leaving_fewer : (most : ℕ) → ((q : NewPath t) → HasLeft q.trace.ended → count_differing t tables q ≤ suc most) → (q : NewPath t) → HasLeft q.trace.ended → count_differing t then q ≤ most
       leaving_fewer most le q left =
           let other = path_of q.number q.class q.is_class in
           let leaving = leaves_where q left in

@@ -1,5 +1,5 @@
 -- What keeps a class safe in a round keeps it safe with one more change, by numbers that also fall along the tail of a path that leaves.
-use Rattle.std.proofs.Common.{◌≡◌, ◌⊎◌, ℕ, List, [], ◌∷◌, map, refl, sym, ◌∙◌, subst, ap, inl, inr}
+use Rattle.std.proofs.Common.{◌≡◌, ◌⊎◌, ℕ, true, false, List, [], ◌∷◌, map, refl, sym, ◌∙◌, subst, ap, inl, inr}
 use Rattle.std.specs.Prelude.{IsTrue}
 use Rattle.std.specs.List.{AllByRecursion}
 use Rattle.net_base.specs.Members.{IsIn, IsDistinct}
@@ -8,16 +8,17 @@ use Rattle.net_base.proofs.WalkLaws.{reached_start, reached_more}
 use Rattle.net_base.proofs.MemberLaws.{each_at, in_map, in_from_map}
 use Rattle.net_base.specs.declared.ids.SwitchId.{SwitchId}
 use Rattle.net_base.specs.declared.ids.Place.{Place}
+use Rattle.net_base.specs.declared.ids.Stop.{Stop}
 use Rattle.topology.specs.Networks.{Network, IsNetwork}
 use Rattle.flow_rules.specs.declared.rules.Action.{Action}
 use Rattle.path_walk.specs.Outcomes.{action_outcome}
 use Rattle.path_walk.specs.declared.Outcome.{Outcome}
 use Rattle.path_walk.specs.declared.Outcome.TheVariants.{Discard, Go}
-use Rattle.demands.specs.Duties.{PacketDuties}
+use Rattle.demands.specs.Duties.{PacketDuties, lets}
 use Rattle.acyclic_numbering.specs.Heights.{IsLower, Falls}
 use Rattle.acyclic_numbering.proofs.AlongLists.{IsNext, FallsAlong, cases_in}
 use Rattle.update_model.specs.Mixtures.{Rollout, IsPossible, MayGo, IsOnMixedWalk}
-use Rattle.certificates.specs.Steps.{IsMixedStep, MayDrop, switches_along}
+use Rattle.certificates.specs.Steps.{IsMixedStep, MayLeaveElsewhere, MayDrop, switches_along}
 use Rattle.certificates.specs.Ordered.{IsSafe, AreGuarded}
 use Rattle.certificates.proofs.TreeWalks.{Steps, same_go, same_stays, step_back, path_next, drop_at_end, SomeKeepsSafe}
 use Rattle.law_packed_trees.proofs.Sunk.{numbers_with_tail}
@@ -38,7 +39,7 @@ reached_by step start place (rest, walk, ends) =
       | inr (x, reached, goes) ↦ inr (x, subst (step x) ends goes)
     ]
 
-module _ (v : Rollout) (dst : ℕ) (entry : Place) (duties : PacketDuties) (no_chains : duties.chains ≡ []) where
+module _ (v : Rollout) (dst : ℕ) (entry : Place) (duties : PacketDuties) (no_chains : duties.chains ≡ []) (no_exits : duties.exits ≡ []) where
   -- what holds of the entry, and after each step along which the numbers fall
   module _ (numbers : List ℕ) (Holds : Place → Type 0) (begins : Holds entry)
       (goes : (p q : Place) → Holds p → MayGo v 0 dst p q → Holds q × IsLower numbers p.switch q.switch)
@@ -61,8 +62,15 @@ module _ (v : Rollout) (dst : ℕ) (entry : Place) (duties : PacketDuties) (no_c
     guarded : AreGuarded v 0 dst entry duties.chains []
     guarded = subst (λ chains. AreGuarded v 0 dst entry chains []) (sym no_chains) (record { count = refl; guards = tt })
 
+    -- where no list of exits is asked for, each port is one of them
+    inside : (s : SwitchId) → ¬ MayLeaveElsewhere v 0 dst entry duties.exits s
+    inside s may =
+        let stop : Stop = record { switch = may.place.switch; port = may.port } in
+        let out : true ≡ false = subst (λ (exits : List (List Stop)). lets exits stop ≡ false) no_exits may.elsewhere in
+        cc
+
     safe_by : SomeKeepsSafe v 0 dst entry duties
-    safe_by = (numbers, [], record { falls = falls; arrives = arrives; guarded = guarded })
+    safe_by = (numbers, [], record { falls = falls; arrives = arrives; exits = inside; guarded = guarded })
 
   module _ (u : Rollout) (numbers : List ℕ) (sets : List (List ℕ)) (keeps : IsSafe u 0 dst entry duties numbers sets) where
     lower_then : (p q : Place) → IsOnMixedWalk u 0 dst entry p → MayGo u 0 dst p q → IsLower numbers p.switch q.switch

@@ -26,7 +26,6 @@ use Rattle.path_walk.specs.declared.Outcome.{Outcome}
 use Rattle.path_walk.specs.declared.Outcome.TheVariants.{Discard, Leave, Go}
 use Rattle.dest_classes.specs.Classes.{IsClass}
 use Rattle.dest_classes.specs.declared.Class.{Class}
-use Rattle.config_check.specs.Broken.{IsLeft}
 use Rattle.demands.specs.Duties.{PacketDuties, duties_of}
 use Rattle.demands.specs.Good.{HasGoodPath, IsDropped}
 use Rattle.acyclic_numbering.proofs.AlongLists.{cases_switch}
@@ -39,7 +38,8 @@ use Rattle.certificates.specs.Rounds.{one_round_of, IsSafeByEvidence, CanBeRound
 use Rattle.certificates.specs.Trees.{IsTreeUpdate, IsRemainingReplace}
 use Rattle.certificates.proofs.TreeRounds.{blocks, within_at, new_fit, same_blocks, same_lookup}
 use Rattle.certificates.proofs.TreeWalks.{Steps, FinePath, SomeKeepsSafe, drop_at_end, host_drops, safe_on_path}
-use Rattle.certificates.proofs.TreePaths.{no_chains, fine_from_good, leaves_or_drops}
+use Rattle.certificates.proofs.TreePaths.{no_chains, no_exits, fine_from_good, leaves_or_drops}
+use Rattle.law_packed_trees.specs.Bounds.{HasLeft}
 use Rattle.law_packed_trees.proofs.ManyReplaces.{AreWanted, wanted_of, possible_either, possible_more, fits_then, lookup_then}
 use Rattle.law_packed_trees.proofs.MoreSafe.{safe_as_before, safe_with_tail}
 use Rattle.law_packed_trees.proofs.Picks.{RuleDiffers, picked_differs, rule_picked, new_picked, has_address, rule_then, stood_before}
@@ -58,6 +58,9 @@ module _ (t : Task) (tree : IsTreeUpdate t) (is_net : IsNetwork t.update.net) (o
 
   chainless : (class : Class) → (duties class).chains ≡ []
   chainless class = no_chains t.update.demands tree.no_waypoints class.entry class.first
+
+  exitless : (class : Class) → (duties class).exits ≡ []
+  exitless class = no_exits t.update.demands tree.no_exits class.entry class.first
 
   abbrev new_out : Class → Place → Outcome
   new_out class p = outcome_in net new p class.first
@@ -78,7 +81,7 @@ module _ (t : Task) (tree : IsTreeUpdate t) (is_net : IsNetwork t.update.net) (o
 
     -- the new path leaves
     pub record Leaving : Type 0 where
-      pub left : IsLeft good.trace.ended
+      pub left : HasLeft good.trace.ended
       pub leaves : ¬ (new_out class last ≡ Discard)
 
     -- the new path is dropped at its entry
@@ -100,11 +103,11 @@ module _ (t : Task) (tree : IsTreeUpdate t) (is_net : IsNetwork t.update.net) (o
               }))
         ]
       where
-        left : ¬ (new_out class last ≡ Discard) → IsLeft good.trace.ended
+        left : ¬ (new_out class last ≡ Discard) → HasLeft good.trace.ended
         left leaves =
-            elim (new_out class last) as (λ o. new_out class last ≡ o → IsLeft good.trace.ended) [
+            elim (new_out class last) as (λ o. new_out class last ≡ o → HasLeft good.trace.ended) [
               | Discard ↦ λ e. absurd (leaves e)
-              | Leave port vlan ↦ λ e. subst IsLeft (sym (good.path.ended ∙ ap (ended_by last) e)) tt
+              | Leave port vlan ↦ λ e. subst HasLeft (sym (good.path.ended ∙ ap (ended_by last) e)) tt
               | Go q ↦ λ e. absurd (path_ends net new class.entry class.first good.trace good.path q e)
             ] refl
 
@@ -211,7 +214,7 @@ module _ (t : Task) (tree : IsTreeUpdate t) (is_net : IsNetwork t.update.net) (o
       along_safe : (n : ℕ) (class : Class) (is : IsClass (classes_for t) n class) → AllByRecursion (IsNewAt class) (places n class is) → Safe changes class
       along_safe n class is agree =
           evidence changes class
-          (safe_on_path (one_round_of net tables changes) 0 class.first class.entry (duties class) (chainless class) (new_out class) (fine n class is)
+          (safe_on_path (one_round_of net tables changes) 0 class.first class.entry (duties class) (chainless class) (exitless class) (new_out class) (fine n class is)
           (λ q found i may. elim (possible_either t tree old_user.distinct new_user.distinct tables p.fit changes wanted class.first q found may) [
             | inl e ↦ inl (e ∙ ap (action_outcome net q) (each_at (IsNewAt class) (places n class is) q agree i))
             | inr e ↦ inl e
@@ -265,7 +268,7 @@ module _ (t : Task) (tree : IsTreeUpdate t) (is_net : IsNetwork t.update.net) (o
             (elim (cases_Bool (in_block next.key.pattern.dst other.first)) [
               | inl inside ↦ (
                   let alike = alike_in h.first.switch next d.wanted other.first class.first inside (change_has class h.first h.differs) in
-                  safe_with_tail (one_round_of net tables (changes ++ change ∷ [])) other.first other.entry (duties other) (chainless other) (one_round_of net tables changes) keeps.numbers keeps.sets keeps.safe
+                  safe_with_tail (one_round_of net tables (changes ++ change ∷ [])) other.first other.entry (duties other) (chainless other) (exitless other) (one_round_of net tables changes) keeps.numbers keeps.sets keeps.safe
                   net is_net (now_at class) (new_at class) h.first h.after
                   (walk_weaker (Steps (new_out class)) (Steps (λ q. action_outcome net q (new_at class q.switch))) (λ a b e. sym (new_same class class.first itself a) ∙ e) h.first h.after h.walk)
                   (λ q e. subst (λ x. ¬ (new_out class x ≡ Go q)) (sym h.same_end) (path_ends net new class.entry class.first (good n class is).trace (good n class is).path q)
@@ -283,7 +286,7 @@ module _ (t : Task) (tree : IsTreeUpdate t) (is_net : IsNetwork t.update.net) (o
                     | inr g ↦ inr (g.0, g.2 ∙ new_same class other.first alike q)
                   ]))
               | inr outside ↦
-                  safe_as_before (one_round_of net tables (changes ++ change ∷ [])) other.first other.entry (duties other) (chainless other) (one_round_of net tables changes) keeps.numbers keeps.sets keeps.safe
+                  safe_as_before (one_round_of net tables (changes ++ change ∷ [])) other.first other.entry (duties other) (chainless other) (exitless other) (one_round_of net tables changes) keeps.numbers keeps.sets keeps.safe
                   (λ q found may. elim (possible_more t tree old_user.distinct new_user.distinct tables p.fit changes all_wanted h.first.switch next d.wanted other.first q found may) [
                     | inl m ↦ inl m
                     | inr g ↦ absurd (both_ways (in_block next.key.pattern.dst other.first) outside g.1)
@@ -307,7 +310,7 @@ module _ (t : Task) (tree : IsTreeUpdate t) (is_net : IsNetwork t.update.net) (o
                 | inl leaving ↦ along_safe (changes ++ at_entry ∷ []) (remain_more at_entry (change_remains class class.entry ne)) m other other_is (leaving_new m other other_is leaving)
                 | inr drop ↦
                     evidence (changes ++ at_entry ∷ []) other
-                    (safe_as_before (one_round_of net tables (changes ++ at_entry ∷ [])) other.first other.entry (duties other) (chainless other) (one_round_of net tables changes) keeps.numbers keeps.sets keeps.safe
+                    (safe_as_before (one_round_of net tables (changes ++ at_entry ∷ [])) other.first other.entry (duties other) (chainless other) (exitless other) (one_round_of net tables changes) keeps.numbers keeps.sets keeps.safe
                     (λ q found may. elim (possible_more t tree old_user.distinct new_user.distinct tables p.fit changes all_wanted class.entry.switch d.next d.wanted other.first q found may) [
                       | inl m ↦ inl m
                       | inr g ↦ (

@@ -7,9 +7,10 @@ use Rattle.flow_rules.specs.Tables.{rules_at, matched_rule, lookup}
 use Rattle.flow_rules.specs.declared.rules.Rule.{Rule}
 use Rattle.path_walk.specs.Outcomes.{header_at}
 use Rattle.path_walk.specs.Paths.{Trace, IsPath}
+use Rattle.path_walk.specs.declared.Ended.{Ended}
+use Rattle.path_walk.specs.declared.Ended.TheVariants.{Left}
 use Rattle.dest_classes.specs.Classes.{IsClass}
 use Rattle.dest_classes.specs.declared.Class.{Class}
-use Rattle.config_check.specs.Broken.{IsLeft}
 use Rattle.demands.specs.Good.{IsDropped}
 use Rattle.update_model.specs.declared.Change.{Change}
 use Rattle.certificates.specs.Updates.{Task}
@@ -23,6 +24,11 @@ pub record NewPath (t : Task) : Type 0 where
   pub is_class : IsClass (classes_for t) number class
   pub trace : Trace
   pub path : IsPath t.update.net t.update.new class.entry class.first trace
+
+-- the packet left the network
+abbrev pub HasLeft : Ended → Type 0
+HasLeft (Left switch port vlan) = Unit {0}
+HasLeft _ = ⊥
 
 -- the places of such a path
 abbrev pub places_of : (t : Task) → NewPath t → List Place
@@ -53,6 +59,6 @@ pub record SomeIsUnmet (t : Task) (now : List (List Rule)) : Type 0 where
 -- the lookup differs at so many places at most of a class's new path that leaves; the other two numbers are at least 1, the one
 -- where some new path is dropped and the lookup differs at its entry, the other where some rule with another action is picked nowhere
 pub record AreBounds (t : Task) (now : List (List Rule)) (most dropped unmet : ℕ) : Type 0 where
-  pub leaving : (p : NewPath t) → IsLeft p.trace.ended → count_differing t now p ≤ most
+  pub leaving : (p : NewPath t) → HasLeft p.trace.ended → count_differing t now p ≤ most
   pub dropping : SomeDropDiffers t now → 1 ≤ dropped
   pub unpicked : SomeIsUnmet t now → 1 ≤ unmet

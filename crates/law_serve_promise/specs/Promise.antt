@@ -118,9 +118,9 @@ pub record ServePromise (files : Files) (names : CheckNames) (old new : Option (
   pub both_ways : (c : FilesAreCertified files names) → IsTwoWayConsistent c.meaning.update c.meaning.plan.rounds (is_two_phase c.meaning.plan.evidence)
   -- On the wire (crates/law_wire/specs): switches carry flow messages out in any order between barrier requests, or refuse them; bytes are
   -- cut anywhere, connections are lost, switches die and come back. In every state each packet is as above, and no premise speaks of changes
-  -- in force. Each switch that isn't dead has the table of the logged events with some of the pending changes made besides, within its
-  -- capacity, and all that was asked for once its answer was taken. Where nothing is left to do for any switch no round runs. Of lines that
-  -- ask for the calls of such a state the blocks tell just what its driver says.
+  -- in force. Each switch that isn't dead has the table that `tables` gives for the events so far, with some of the changes made that it
+  -- names as pending, within its capacity, and all that was asked for once its answer was taken. Where nothing is left to do
+  -- for any switch no round runs. Of lines that ask for the calls of such a state the blocks tell just what its driver says.
   pub safe_on_the_wire : (c : FilesAreCertified files names) → IsWireConsistent c.meaning.update c.meaning.plan.rounds (is_two_phase c.meaning.plan.evidence)
   pub tables_on_the_wire : (c : FilesAreCertified files names) → AreTablesOnWire (rollout (task_in c.meaning))
   pub never_stuck : (c : FilesAreCertified files names) → IsNeverStuck (rollout (task_in c.meaning))

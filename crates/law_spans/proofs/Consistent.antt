@@ -9,6 +9,8 @@ use Rattle.net_base.specs.Places.{stop_of}
 use Rattle.net_base.proofs.WalkLaws.{walk_weaker}
 use Rattle.net_base.proofs.MemberLaws.{each_first, each_last, each_from_map, each_weaker}
 use Rattle.net_base.specs.declared.ids.Place.{Place}
+use Rattle.net_base.specs.declared.ids.Stop.{Stop}
+use Rattle.net_base.specs.declared.ids.SwitchId.{SwitchId}
 use Rattle.topology.specs.Networks.{IsEntry}
 use Rattle.flow_rules.specs.Tables.{table_blocks}
 use Rattle.path_walk.specs.UserConfigs.{IsUserConfig}
@@ -17,8 +19,8 @@ use Rattle.path_walk.specs.declared.Ended.TheVariants.{UnderWay, Left, Dropped, 
 use Rattle.path_walk.specs.declared.Outcome.{Outcome}
 use Rattle.path_walk.specs.declared.Outcome.TheVariants.{Discard, Leave, Go}
 use Rattle.dest_classes.proofs.ClassLaws.{class_of}
-use Rattle.demands.specs.Duties.{DemandView, duties_of}
-use Rattle.demands.specs.Good.{IsGood, MeetsChains, IsDropped, switches_of}
+use Rattle.demands.specs.Duties.{DemandView, duties_of, lets}
+use Rattle.demands.specs.Good.{IsGood, MeetsChains, LeavesAtExit, IsDropped, switches_of}
 use Rattle.demands.proofs.DutyLaws.{duties_same}
 use Rattle.demands.proofs.MeetsLaws.{good_meets}
 use Rattle.update_model.specs.Changes.{rule_of}
@@ -44,7 +46,7 @@ use Rattle.law_spans.specs.Runs.{state_after_with_waits}
 use Rattle.law_spans.proofs.SpanLaws.{span_of}
 use Rattle.law_spans.proofs.WalkLaws.{end_place, stops_are, met_end}
 use Rattle.law_spans.proofs.Falling.{distinct_timed}
-use Rattle.law_spans.proofs.Guarded.{timed_chains_met}
+use Rattle.law_spans.proofs.Guarded.{timed_chains_met, timed_exits}
 use Rattle.law_spans.proofs.Labelled.{labelled_stay}
 use Rattle.law_spans.proofs.Single.{walked_alone}
 use Rattle.law_spans.proofs.Journeys.{IsRound, WalkedUnbroken, IsSound, sound_with_waits, walked_in_span}
@@ -99,6 +101,16 @@ module _ (t : Task) (first : ℕ) (p : Packet) (same : IsSameClass (blocks_of t.
           timed_chains_met (rollout t) span first p.entry (duties_of t.update.demands p.entry first).chains sets safe.guarded walked.start walked.rest port vlan walk_to_first
           (end_to_first (Leave port vlan) was.1)
 
+      left_at_exit : (ended : Ended) → EndWasPossible (rollout t) (record p { born = (end_of walked.start walked.rest).round }) ended
+          → LeavesAtExit (duties_of t.update.demands p.entry first).exits ended
+      left_at_exit UnderWay was = tt
+      left_at_exit Lost was = tt
+      left_at_exit (Dropped switch) was = tt
+      left_at_exit (Left switch port vlan) was =
+          subst (λ (s : SwitchId). let stop : Stop = record { switch = s; port = port } in IsTrue (lets (duties_of t.update.demands p.entry first).exits stop))
+          (ap (λ (x : Place). x.switch) walked.at_is ∙ sym was.0)
+          (timed_exits (rollout t) span first p.entry (duties_of t.update.demands p.entry first) numbers sets safe walked.start walked.rest port vlan walk_to_first (end_to_first (Leave port vlan) was.1))
+
       not_dropped : (ended : Ended) → EndWasPossible (rollout t) (record p { born = (end_of walked.start walked.rest).round }) ended
           → IsTrue (duties_of t.update.demands p.entry first).arrive → ¬ IsDropped ended
       not_dropped UnderWay was must = λ h. h
@@ -115,6 +127,7 @@ module _ (t : Task) (first : ℕ) (p : Packet) (same : IsSameClass (blocks_of t.
         distinct = subst IsDistinct (sym switches) (distinct_timed (rollout t) span first p.entry numbers safe.falls walked.start walked.rest walk_to_first);
         chains = subst (λ s. MeetsChains (duties_of t.update.demands p.entry first).chains s p.ended) (sym switches) (met_chains p.ended walked.ended);
         arrives = not_dropped p.ended walked.ended;
+        exits = left_at_exit p.ended walked.ended;
       })
 
     -- that of a two-phase span keeps the packet to the mixtures of the round in which it entered

@@ -3,6 +3,7 @@ use Rattle.std.proofs.Common.{◌≡◌, ℕ, ◌≤◌, List, arith, refl}
 use Rattle.net_base.proofs.MemberLaws.{each_weaker}
 use Rattle.net_base.specs.declared.ids.SwitchId.{SwitchId}
 use Rattle.net_base.specs.declared.ids.Place.{Place}
+use Rattle.net_base.specs.declared.ids.Stop.{Stop}
 use Rattle.flow_rules.specs.declared.rules.Rule.{Rule}
 use Rattle.dest_classes.specs.declared.Class.{Class}
 use Rattle.demands.specs.Duties.{PacketDuties, duties_of}
@@ -16,14 +17,14 @@ use Rattle.certificates.specs.declared.OrderedPick.{OrderedPick}
 use Rattle.certificates.specs.declared.OrderedEvidence.{OrderedEvidence}
 use Rattle.certificates.specs.declared.TwoPhaseEvidence.{TwoPhaseEvidence}
 use Rattle.law_spans.specs.Spans.{Span, IsPart}
-use Rattle.law_spans.specs.TimedWalks.{IsStepInSpan, MayLeaveInSpan}
+use Rattle.law_spans.specs.TimedWalks.{IsStepInSpan, MayLeaveInSpan, MayLeaveElsewhereInSpan}
 use Rattle.law_spans.specs.Certificates.{IsSafeInSpan, IsPickOfSpan, OrderedSpanCertificate, TwoPhaseSpanCertificate}
 use Rattle.law_spans.specs.Certified.{HasSpanCertificate}
 use Rattle.law_spans.proofs.WalkLaws.{wider_met}
 
 -- a guard against more edges and more leaving switches guards against fewer
 pub guard_fewer : (start : SwitchId) (edge fewer : SwitchId → SwitchId → Type 0) (leaves less : SwitchId → Type 0) → ((s t : SwitchId) → fewer s t → edge s t) → ((s : SwitchId) → less s → leaves s)
-    → (p : Position) → IsGuard start edge leaves p.waypoint p.earlier p.set → IsGuard start fewer less p.waypoint p.earlier p.set
+    → (p : Position) → IsGuard start edge leaves p.item p.earlier p.set → IsGuard start fewer less p.item p.earlier p.set
 guard_fewer start edge fewer leaves less f g p guard = record {
   before = record { begins = guard.before.begins; stays = λ s t step. guard.before.stays s t (f s t step) };
   keeps = λ s leaving. guard.keeps s (g s leaving);
@@ -50,15 +51,27 @@ module _ (u : Rollout) (part span : Span) (is : IsPart part span) (dst : ℕ) (e
     at_is = leave.at_is;
   }
 
+  out_of_part : (exits : List (List Stop)) (s : SwitchId) → MayLeaveElsewhereInSpan u part dst entry exits s → MayLeaveElsewhereInSpan u span dst entry exits s
+  out_of_part exits s leave = record {
+    here = leave.here;
+    port = leave.port;
+    vlan = leave.vlan;
+    met = wider_met u part span is dst entry leave.here leave.met;
+    leaves = leave.leaves;
+    at_is = leave.at_is;
+    elsewhere = leave.elsewhere;
+  }
+
   pub safe_in_part : (duties : PacketDuties) (numbers : List ℕ) (sets : List (List ℕ)) → IsSafeInSpan u span dst entry duties numbers sets → IsSafeInSpan u part dst entry duties numbers sets
   safe_in_part duties numbers sets safe = record {
     falls = λ s t step. safe.falls s t (step_of_part s t step);
     arrives = λ must drop. safe.arrives must (record { here = drop.here; met = wider_met u part span is dst entry drop.here drop.met; drops = drop.drops });
+    exits = λ s leave. safe.exits s (out_of_part duties.exits s leave);
     guarded = record {
       count = safe.guarded.count;
       guards = each_weaker
-          (λ p. IsGuard entry.switch (IsStepInSpan u span dst entry) (MayLeaveInSpan u span dst entry) p.waypoint p.earlier p.set)
-          (λ p. IsGuard entry.switch (IsStepInSpan u part dst entry) (MayLeaveInSpan u part dst entry) p.waypoint p.earlier p.set)
+          (λ p. IsGuard entry.switch (IsStepInSpan u span dst entry) (MayLeaveInSpan u span dst entry) p.item p.earlier p.set)
+          (λ p. IsGuard entry.switch (IsStepInSpan u part dst entry) (MayLeaveInSpan u part dst entry) p.item p.earlier p.set)
           (guard_fewer entry.switch (IsStepInSpan u span dst entry) (IsStepInSpan u part dst entry) (MayLeaveInSpan u span dst entry) (MayLeaveInSpan u part dst entry) step_of_part leave_of_part)
           (positions duties.chains sets) safe.guarded.guards;
     };

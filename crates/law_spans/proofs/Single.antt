@@ -6,6 +6,7 @@ use Rattle.net_base.specs.Places.{stop_of}
 use Rattle.net_base.proofs.MemberLaws.{each_weaker}
 use Rattle.net_base.specs.declared.ids.SwitchId.{SwitchId}
 use Rattle.net_base.specs.declared.ids.Place.{Place}
+use Rattle.net_base.specs.declared.ids.Stop.{Stop}
 use Rattle.flow_rules.specs.declared.rules.Rule.{Rule}
 use Rattle.path_walk.specs.declared.Outcome.TheVariants.{Discard, Leave}
 use Rattle.dest_classes.specs.declared.Class.{Class}
@@ -14,7 +15,7 @@ use Rattle.waypoint_evidence.specs.Befores.{IsGuard}
 use Rattle.update_model.specs.Mixtures.{Rollout, IsPossible, MayGo, IsMixedWalk, IsOnMixedWalk}
 use Rattle.update_model.specs.OneRound.{EndWasPossible}
 use Rattle.update_model.specs.declared.Packet.{Packet}
-use Rattle.certificates.specs.Steps.{IsMixedStep, MayLeave, MayDrop}
+use Rattle.certificates.specs.Steps.{IsMixedStep, MayLeave, MayLeaveElsewhere, MayDrop}
 use Rattle.certificates.specs.Ordered.{positions, IsSafe, OrderedCertificate}
 use Rattle.certificates.specs.TwoPhase.{tables_of, KeepsOn, TwoPhaseCertificate}
 use Rattle.certificates.specs.Certified.{IsCertified, HasCertificate}
@@ -25,7 +26,7 @@ use Rattle.certificates.specs.declared.OrderedEvidence.{OrderedEvidence}
 use Rattle.certificates.specs.declared.TwoPhaseEvidence.{TwoPhaseEvidence}
 use Rattle.law_two_way_runs.specs.Laws.{WalkedRound}
 use Rattle.law_spans.specs.Spans.{AreAllWaits, Span}
-use Rattle.law_spans.specs.TimedWalks.{TimedPlace, IsTimedStep, IsTimedWalk, IsMetInRound, IsStepInSpan, MayLeaveInSpan, MayDropInSpan, places_walked, WalkedInSpan}
+use Rattle.law_spans.specs.TimedWalks.{TimedPlace, IsTimedStep, IsTimedWalk, IsMetInRound, IsStepInSpan, MayLeaveInSpan, MayLeaveElsewhereInSpan, MayDropInSpan, places_walked, WalkedInSpan}
 use Rattle.law_spans.specs.Certificates.{IsSafeInSpan, OrderedSpanCertificate, TwoPhaseSpanCertificate}
 use Rattle.law_spans.specs.Certified.{HasSpanCertificate, IsCertifiedWithWaits}
 use Rattle.law_spans.proofs.SpanLaws.{alone_is_span, span_is_alone}
@@ -124,6 +125,30 @@ module _ (u : Rollout) (k dst : ℕ) where
           at_is = leave.at_is;
         }
 
+    timed_out : (exits : List (List Stop)) (s : SwitchId) → MayLeaveElsewhere u k dst entry exits s → MayLeaveElsewhereInSpan u (alone k) dst entry exits s
+    timed_out exits s leave = record {
+      here = in_round k leave.place;
+      port = leave.port;
+      vlan = leave.vlan;
+      met = met_from_reached leave.place leave.on_walk;
+      leaves = leave.leaves;
+      at_is = leave.at_is;
+      elsewhere = leave.elsewhere;
+    }
+
+    mixed_out : (exits : List (List Stop)) (s : SwitchId) → MayLeaveElsewhereInSpan u (alone k) dst entry exits s → MayLeaveElsewhere u k dst entry exits s
+    mixed_out exits s leave =
+        let (reached, round) = reached_from_met leave.here leave.met in
+        record {
+          place = leave.here.place;
+          port = leave.port;
+          vlan = leave.vlan;
+          on_walk = reached;
+          leaves = subst (λ r. IsPossible u r dst leave.here.place (Leave leave.port leave.vlan)) round leave.leaves;
+          at_is = leave.at_is;
+          elsewhere = leave.elsewhere;
+        }
+
     timed_drop : MayDrop u k dst entry → MayDropInSpan u (alone k) dst entry
     timed_drop drop = record { here = in_round k drop.place; met = met_from_reached drop.place drop.on_walk; drops = drop.drops }
 
@@ -136,11 +161,12 @@ module _ (u : Rollout) (k dst : ℕ) where
     safe_alone duties numbers sets safe = record {
       falls = λ s t step. safe.falls s t (mixed_edge s t step);
       arrives = λ must drop. safe.arrives must (mixed_drop drop);
+      exits = λ s leave. safe.exits s (mixed_out duties.exits s leave);
       guarded = record {
         count = safe.guarded.count;
         guards = each_weaker
-            (λ p. IsGuard entry.switch (IsMixedStep u k dst entry) (MayLeave u k dst entry) p.waypoint p.earlier p.set)
-            (λ p. IsGuard entry.switch (IsStepInSpan u (alone k) dst entry) (MayLeaveInSpan u (alone k) dst entry) p.waypoint p.earlier p.set)
+            (λ p. IsGuard entry.switch (IsMixedStep u k dst entry) (MayLeave u k dst entry) p.item p.earlier p.set)
+            (λ p. IsGuard entry.switch (IsStepInSpan u (alone k) dst entry) (MayLeaveInSpan u (alone k) dst entry) p.item p.earlier p.set)
             (guard_fewer entry.switch (IsMixedStep u k dst entry) (IsStepInSpan u (alone k) dst entry) (MayLeave u k dst entry) (MayLeaveInSpan u (alone k) dst entry) mixed_edge mixed_leave)
             (positions duties.chains sets) safe.guarded.guards;
       };
@@ -150,11 +176,12 @@ module _ (u : Rollout) (k dst : ℕ) where
     safe_as_before duties numbers sets safe = record {
       falls = λ s t step. safe.falls s t (timed_edge s t step);
       arrives = λ must drop. safe.arrives must (timed_drop drop);
+      exits = λ s leave. safe.exits s (timed_out duties.exits s leave);
       guarded = record {
         count = safe.guarded.count;
         guards = each_weaker
-            (λ p. IsGuard entry.switch (IsStepInSpan u (alone k) dst entry) (MayLeaveInSpan u (alone k) dst entry) p.waypoint p.earlier p.set)
-            (λ p. IsGuard entry.switch (IsMixedStep u k dst entry) (MayLeave u k dst entry) p.waypoint p.earlier p.set)
+            (λ p. IsGuard entry.switch (IsStepInSpan u (alone k) dst entry) (MayLeaveInSpan u (alone k) dst entry) p.item p.earlier p.set)
+            (λ p. IsGuard entry.switch (IsMixedStep u k dst entry) (MayLeave u k dst entry) p.item p.earlier p.set)
             (guard_fewer entry.switch (IsStepInSpan u (alone k) dst entry) (IsMixedStep u k dst entry) (MayLeaveInSpan u (alone k) dst entry) (MayLeave u k dst entry) timed_edge timed_leave)
             (positions duties.chains sets) safe.guarded.guards;
       };

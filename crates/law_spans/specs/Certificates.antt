@@ -16,18 +16,19 @@ use Rattle.certificates.specs.declared.OrderedPick.{OrderedPick}
 use Rattle.certificates.specs.declared.OrderedEvidence.{OrderedEvidence}
 use Rattle.certificates.specs.declared.TwoPhaseEvidence.{TwoPhaseEvidence}
 use Rattle.law_spans.specs.Spans.{Span, HasRound}
-use Rattle.law_spans.specs.TimedWalks.{IsStepInSpan, MayLeaveInSpan, MayDropInSpan}
+use Rattle.law_spans.specs.TimedWalks.{IsStepInSpan, MayLeaveInSpan, MayLeaveElsewhereInSpan, MayDropInSpan}
 
 -- there are as many before sets as the chains have positions together, and each guards its position against every timed walk
-pub record AreGuardedInSpan (u : Rollout) (span : Span) (dst : ℕ) (entry : Place) (chains : List (List SwitchId)) (sets : List (List ℕ)) : Type 0 where
+pub record AreGuardedInSpan (u : Rollout) (span : Span) (dst : ℕ) (entry : Place) (chains : List (List (List SwitchId))) (sets : List (List ℕ)) : Type 0 where
   pub count : length sets ≡ length (flat_map (λ chain. chain) chains)
-  pub guards : AllByRecursion (λ p. IsGuard entry.switch (IsStepInSpan u span dst entry) (MayLeaveInSpan u span dst entry) p.waypoint p.earlier p.set) (positions chains sets)
+  pub guards : AllByRecursion (λ p. IsGuard entry.switch (IsStepInSpan u span dst entry) (MayLeaveInSpan u span dst entry) p.item p.earlier p.set) (positions chains sets)
 
 -- a numbering and before sets that keep a class safe in a span: each step of a timed walk goes to a lower number,
--- nothing that must arrive may be dropped, and each chain is guarded
+-- nothing that must arrive may be dropped, nothing may leave but at an exit, and each chain is guarded
 pub record IsSafeInSpan (u : Rollout) (span : Span) (dst : ℕ) (entry : Place) (duties : PacketDuties) (numbers : List ℕ) (sets : List (List ℕ)) : Type 0 where
   pub falls : Falls (IsStepInSpan u span dst entry) numbers
   pub arrives : IsTrue duties.arrive → ¬ MayDropInSpan u span dst entry
+  pub exits : (s : SwitchId) → ¬ MayLeaveElsewhereInSpan u span dst entry duties.exits s
   pub guarded : AreGuardedInSpan u span dst entry duties.chains sets
 
 -- one pick for a span: it is in force at the first round, and none of its class stands at a later one

@@ -1,7 +1,7 @@
 -- What holds of spans and of runs with waits.
-use Rattle.std.specs.Prelude.{◌≡◌, ℕ, ◌<◌, Bool, List, length}
+use Rattle.std.specs.Prelude.{◌≡◌, ℕ, ◌<◌, Bool, IsTrue, List, length}
 use Rattle.std.specs.List.{AllByRecursion}
-use Rattle.net_base.specs.Members.{IsDistinct, IsSubsequence}
+use Rattle.net_base.specs.Members.{IsDistinct, MeetsInOrder}
 use Rattle.net_base.specs.Walks.{end_of}
 use Rattle.net_base.specs.declared.ids.SwitchId.{SwitchId}
 use Rattle.net_base.specs.declared.ids.Place.{Place}
@@ -12,7 +12,7 @@ use Rattle.flow_rules.specs.declared.rules.Rule.{Rule}
 use Rattle.path_walk.specs.declared.Outcome.{Outcome}
 use Rattle.path_walk.specs.declared.Outcome.TheVariants.{Leave}
 use Rattle.acyclic_numbering.specs.Heights.{Falls}
-use Rattle.demands.specs.Duties.{PacketDuties}
+use Rattle.demands.specs.Duties.{PacketDuties, lets}
 use Rattle.update_model.specs.Mixtures.{Rollout, MayHold, IsPossible, IsMixedWalk}
 use Rattle.update_model.specs.States.{IsUnderWay}
 use Rattle.update_model.specs.declared.Change.{Change}
@@ -70,10 +70,18 @@ FallingNumbersKeepFromLoopsInSpan u span =
 -- where the chains are guarded, a timed walk at whose last place a packet may leave in its last round has met each chain in order
 abbrev pub GuardedChainsAreMetInSpan : Rollout → Span → Type 0
 GuardedChainsAreMetInSpan u span =
-    (dst : ℕ) (entry : Place) (chains : List (List SwitchId)) (sets : List (List ℕ)) → AreGuardedInSpan u span dst entry chains sets
+    (dst : ℕ) (entry : Place) (chains : List (List (List SwitchId))) (sets : List (List ℕ)) → AreGuardedInSpan u span dst entry chains sets
     → (start : TimedPlace) (rest : List TimedPlace) (port : Port) (vlan : Vlan) → IsTimedWalk u span dst entry start rest
     → IsPossible u (end_of start rest).round dst (end_of start rest).place (Leave port vlan)
-    → AllByRecursion (λ chain. IsSubsequence chain (switches_met start rest)) chains
+    → AllByRecursion (λ chain. MeetsInOrder chain (switches_met start rest)) chains
+
+-- where the class is kept safe, a packet that may leave at the last place of a timed walk in its last round may leave at an exit alone
+abbrev pub SafeClassesLeaveAtExitsInSpan : Rollout → Span → Type 0
+SafeClassesLeaveAtExitsInSpan u span =
+    (dst : ℕ) (entry : Place) (duties : PacketDuties) (numbers : List ℕ) (sets : List (List ℕ)) → IsSafeInSpan u span dst entry duties numbers sets
+    → (start : TimedPlace) (rest : List TimedPlace) (port : Port) (vlan : Vlan) → IsTimedWalk u span dst entry start rest
+    → IsPossible u (end_of start rest).round dst (end_of start rest).place (Leave port vlan)
+    → IsTrue (lets duties.exits (record { switch = (end_of start rest).place.switch; port = port }))
 
 -- under the two-phase certificate a timed walk stays a mixed walk of the round in which it begins, and at its end nothing is possible that isn't so in this round
 abbrev pub LabelledWalksStayMixed : Rollout → List (List Rule) → Span → Type 0

@@ -1,5 +1,5 @@
 -- Where a packet may go while the rounds of a span are carried out one after the other.
-use Rattle.std.specs.Prelude.{◌≡◌, ℕ, ◌≤◌, List, ◌∷◌, map}
+use Rattle.std.specs.Prelude.{◌≡◌, ℕ, ◌≤◌, false, List, ◌∷◌, map}
 use Rattle.net_base.specs.Walks.{IsWalk, end_of}
 use Rattle.net_base.specs.Places.{stop_of}
 use Rattle.net_base.specs.declared.ids.SwitchId.{SwitchId}
@@ -8,6 +8,7 @@ use Rattle.net_base.specs.declared.ids.Port.{Port}
 use Rattle.net_base.specs.declared.ids.Vlan.{Vlan}
 use Rattle.net_base.specs.declared.ids.Place.{Place}
 use Rattle.path_walk.specs.declared.Outcome.TheVariants.{Discard, Leave}
+use Rattle.demands.specs.Duties.{lets}
 use Rattle.update_model.specs.Mixtures.{Rollout, IsPossible, MayGo}
 use Rattle.update_model.specs.OneRound.{EndWasPossible}
 use Rattle.update_model.specs.declared.Packet.{Packet}
@@ -58,6 +59,16 @@ pub record MayLeaveInSpan (u : Rollout) (span : Span) (dst : ℕ) (entry : Place
   pub met : IsMetInRound u span dst entry here
   pub leaves : IsPossible u here.round dst here.place (Leave port vlan)
   pub at_is : here.place.switch ≡ s
+
+-- in some round a packet may leave the network, at a place at the switch that is met in this round, by a port that isn't among the exits
+pub record MayLeaveElsewhereInSpan (u : Rollout) (span : Span) (dst : ℕ) (entry : Place) (exits : List (List Stop)) (s : SwitchId) : Type 0 where
+  pub here : TimedPlace
+  pub port : Port
+  pub vlan : Vlan
+  pub met : IsMetInRound u span dst entry here
+  pub leaves : IsPossible u here.round dst here.place (Leave port vlan)
+  pub at_is : here.place.switch ≡ s
+  pub elsewhere : lets exits (record { switch = here.place.switch; port = port }) ≡ false
 
 -- in some round a packet may be discarded at a place that is met in this round
 pub record MayDropInSpan (u : Rollout) (span : Span) (dst : ℕ) (entry : Place) : Type 0 where

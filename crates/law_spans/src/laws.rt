@@ -21,7 +21,7 @@ ghost use Rattle.law_spans.specs.Spans.{IsWait, AreAllWaits, Span, HasRound, IsP
 ghost use Rattle.law_spans.specs.Certified.{HasSpanCertificate, IsCertifiedWithWaits};
 ghost use Rattle.law_spans.specs.Cuts.{AreWaits, IsGreedyCut};
 ghost use Rattle.law_spans.specs.Runs.{IsRunWithWaits, state_after_with_waits};
-ghost use Rattle.law_spans.specs.Laws.{EachHasTimedWalk, EachWalksInSomeSpan, TablesAreOfLastRound, IsConsistentWithWaits, FallingNumbersKeepFromLoopsInSpan, GuardedChainsAreMetInSpan, LabelledWalksStayMixed, PartsHaveTheSamePick, PartsAreSafe};
+ghost use Rattle.law_spans.specs.Laws.{EachHasTimedWalk, EachWalksInSomeSpan, TablesAreOfLastRound, IsConsistentWithWaits, FallingNumbersKeepFromLoopsInSpan, GuardedChainsAreMetInSpan, SafeClassesLeaveAtExitsInSpan, LabelledWalksStayMixed, PartsHaveTheSamePick, PartsAreSafe};
 
 /// Each round of a plan is in one span, and in no other. A span is a longest list of rounds of which none but the first is a wait.
 pub fn one_span()
@@ -58,6 +58,11 @@ pub fn numbers_fall()
 /// Where the chains are guarded, a packet that may leave has met each of them in order.
 pub fn before_holds()
     ensures { (u : Rollout) (span : Span) → GuardedChainsAreMetInSpan u span }
+{}
+
+/// Where a class is kept safe, its packets may leave at its exits alone.
+pub fn exits_hold()
+    ensures { (u : Rollout) (span : Span) → SafeClassesLeaveAtExitsInSpan u span }
 {}
 
 /// Under the certificate of a two-phase plan a packet that is under way over several rounds walks as in the first of them.

@@ -1,8 +1,8 @@
 -- What follows of the states on the wire.
-use Rattle.std.proofs.Common.{◌≡◌, ℕ, suc, ◌<◌, Bool, true, false, cond, ltb, List, [], ◌∷◌, ◌++◌, length, map, not, refl, sym, ◌∙◌, subst, ap, inl, inr, append-nil, length-append, arith, ◌≤◌, get_or}
-use Rattle.std.specs.Prelude.{◌↔◌, Option, Some, None, is_some, ◌==◌}
+use Rattle.std.proofs.Common.{◌≡◌, ℕ, suc, ◌<◌, Bool, true, false, cond, ltb, List, [], ◌∷◌, ◌++◌, length, map, not, eqb, refl, sym, ◌∙◌, subst, ap, inl, inr, append-nil, length-append, arith, ◌≤◌, get_or}
+use Rattle.std.specs.Prelude.{◌↔◌, Option, Some, None, is_some, ◌==◌, slice_get, reverse}
 use Rattle.std.specs.List.{AllByRecursion, concat}
-use Rattle.std.proofs.lemmas.Bool.{cond-false, le-ltb, both_ways}
+use Rattle.std.proofs.lemmas.Bool.{cond-false, le-ltb, both_ways, eqb-true}
 use Rattle.net_base.specs.Members.{IsIn, IsSameSet}
 use Rattle.net_base.proofs.MemberLaws.{each_weaker, same_through}
 use Rattle.net_base.specs.declared.ids.SwitchId.{SwitchId}
@@ -13,7 +13,12 @@ use Rattle.flow_rules.specs.declared.rules.Rule.{Rule}
 use Rattle.path_walk.specs.UserConfigs.{IsUserConfig}
 use Rattle.update_model.specs.Changes.{changes_at, round_after, switch_of}
 use Rattle.update_model.specs.Mixtures.{Rollout, AreGoodRounds, IsMixture, tables_before, need_of}
+use Rattle.update_model.specs.States.{settled_count}
+use Rattle.update_model.specs.Worlds.{running_round}
+use Rattle.update_model.specs.declared.Change.{Change}
 use Rattle.update_model.specs.declared.Packet.{Packet}
+use Rattle.update_model.specs.declared.Phase.{Phase}
+use Rattle.update_model.specs.declared.Phase.TheVariants.{Running}
 use Rattle.update_model.proofs.ChangeLaws.{key_named}
 use Rattle.update_model.proofs.MadeLaws.{made_of, made_some, at_some}
 use Rattle.certificates.specs.Certified.{IsCertified, is_two_phase}
@@ -30,15 +35,24 @@ use Rattle.switch_session.specs.declared.Session.TheVariants.{Open}
 use Rattle.switch_session.specs.declared.fronts.Front.TheVariants.{Short, Fault, Message as Whole}
 use Rattle.switch_session.proofs.FrontLaws.{number_at-front}
 use Rattle.law_two_way_runs.proofs.Turning.{IsSound}
+use Rattle.law_two_way_runs.specs.States.{TwoWayState}
+use Rattle.law_two_way_runs.specs.Runs.{state_after_two_way}
+use Rattle.two_way_replay.specs.Courses.{CourseState}
+use Rattle.law_courses.specs.BothWays.{course_events}
+use Rattle.law_courses.specs.Pending.{flagged_changes, neither, pending_in}
+use Rattle.law_courses.proofs.PendingLaws.{neither_at, inverse_flagged}
 use Rattle.round_inverses.specs.Rounds.{inverse_rounds}
 use Rattle.two_way_driver.specs.PeerStates.{PeerState}
 use Rattle.two_way_driver.specs.Drivers.{peer_at}
 use Rattle.two_way_driver.specs.Calls.{AreTurnable, IsStageWithin}
-use Rattle.two_way_driver.specs.Laws.{phase_of, Call, IsCall}
+use Rattle.two_way_driver.specs.Laws.{phase_of, Call, IsCall, SaysRun, rollout_of}
+use Rattle.two_way_driver.proofs.RunLaws.{says_run}
+use Rattle.two_way_driver.specs.Peers.{first_peer}
 use Rattle.two_way_driver.specs.declared.Stage.{Stage}
 use Rattle.two_way_driver.specs.declared.Stage.TheVariants.{Settled, Onward, Undone}
 use Rattle.law_wire.specs.Network.{state_on_wire, driver_at, stage_at, IsUnderWayIn, is_gone, logged_state}
-use Rattle.law_wire.specs.Laws.{IsWireConsistent, IsStageTable, goal_of, AreTablesOnWire, IsNeverStuck, changes_on, changes_off, pending_by}
+use Rattle.law_wire.specs.Laws.{IsWireConsistent, IsStageTable, goal_of, AreTablesOnWire, IsNeverStuck}
+use Rattle.law_wire.specs.Recorded.{recorded_steps, recorded_course}
 use Rattle.law_wire.proofs.Entries.{HoldsBy, left_alone}
 use Rattle.law_wire.proofs.Bytes.{Stream, replies_in}
 use Rattle.law_wire.proofs.Link.{option_list, Link, ShapeBy}
@@ -46,10 +60,10 @@ use Rattle.law_wire.proofs.Sides.{sides, named_at, way_of, flag_by, held_made, a
 use Rattle.law_wire.proofs.Keeps.{IsSettledStage, LinkAt, IsOnward}
 use Rattle.law_wire.proofs.Runs.{on_wire}
 use Rattle.law_wire.proofs.Room.{AllOnce, StageFits, has_room, once_on_wire}
-use Rattle.law_wire.proofs.Pending.{not_at, flagged_at, filter_two, inverse_at_switch, from_before, from_behind, mixed_none, flip}
+use Rattle.law_wire.proofs.Recorded.{Stands, recorded_from, is_recorded}
+use Rattle.law_wire.proofs.Pending.{flagged_all, flagged_none, filter_two, inverse_at_switch, from_before, from_behind, mixed_none, flip}
 use Rattle.law_wire.proofs.Logged.{FlagsAt, FlagsIn, logged_at, flags_logged}
 use Rattle.law_two_way_runs.specs.Inverse.{inverse_round}
-use Rattle.std.proofs.lemmas.List.{length-map}
 
 -- ---- a whole message isn't short
 
@@ -149,52 +163,97 @@ module _ (u : Rollout) (good : AreGoodRounds u) (old : AllByRecursion IsTable u.
 
   -- ---- what is pending
 
-  module _ (k : ℕ) (less : k < length u.rounds) (calls : List Call) (ok : AllByRecursion (IsCall u.net) calls) (flags : List Bool) (s : SwitchId) where
-    off_at : (b : Bool) → FlagsAt u good turnable calls ok k flags s b → changes_at s (changes_off flags (round_after k u.rounds)) ≡ cond (not b) (changes_at s (round_after k u.rounds)) []
-    off_at b f = flagged_at (map not flags) (round_after k u.rounds) s (not b) (length-map flags not ∙ f.count) (λ i c at here. not_at flags i b (f.are i c at here))
+  module _ (k : ℕ) (less : k < length u.rounds) (calls : List Call) (ok : AllByRecursion (IsCall u.net) calls) (c : CourseState) (at : c.state.phase ≡ Running (suc k)) (s : SwitchId) where
+    -- what is pending by a schedule, of a phase and a way
+    abbrev PendingBy : Phase → Bool → List Change
+    PendingBy p back =
+        cond back (flagged_changes (inverse_round (tables_before u (settled_count p)) (running_round p u.rounds)) (reverse c.state.in_force)) [] ++ flagged_changes (running_round p u.rounds) (neither c.state.in_force c.taken_back)
 
-    on_at : (b : Bool) → FlagsAt u good turnable calls ok k flags s b → changes_at s (changes_on flags (round_after k u.rounds)) ≡ cond b (changes_at s (round_after k u.rounds)) []
-    on_at b f = flagged_at flags (round_after k u.rounds) s b f.count f.are
+    pending_onward : c.is_undone ≡ false → pending_in u c ≡ flagged_changes (round_after k u.rounds) (neither c.state.in_force c.taken_back)
+    pending_onward forward = ap (λ p. PendingBy p c.is_undone) at ∙ ap (PendingBy (Running (suc k))) forward
 
-    back_at : FlagsAt u good turnable calls ok k flags s true
-        → changes_at s (inverse_round (tables_before u k) (changes_on flags (round_after k u.rounds)) ++ changes_off flags (round_after k u.rounds)) ≡ changes_at s (round_after k (inverse_rounds u.old u.rounds))
-    back_at f =
-        filter_two (λ c. (switch_of c).0 == s.0) (inverse_round (tables_before u k) (changes_on flags (round_after k u.rounds))) (changes_off flags (round_after k u.rounds))
-        ∙ ap (λ l. changes_at s (inverse_round (tables_before u k) (changes_on flags (round_after k u.rounds))) ++ l) (off_at true f)
-        ∙ append-nil (changes_at s (inverse_round (tables_before u k) (changes_on flags (round_after k u.rounds))))
-        ∙ inverse_at_switch (tables_before u k) s (changes_on flags (round_after k u.rounds)) ∙ ap (inverse_round (tables_before u k)) (on_at true f)
+    pending_undone : c.is_undone ≡ true → length c.state.in_force ≡ length (round_after k u.rounds)
+        → pending_in u c ≡ inverse_round (tables_before u k) (flagged_changes (round_after k u.rounds) c.state.in_force) ++ flagged_changes (round_after k u.rounds) (neither c.state.in_force c.taken_back)
+    pending_undone back count =
+        ap (λ p. PendingBy p c.is_undone) at ∙ ap (PendingBy (Running (suc k))) back
+        ∙ ap (λ l. l ++ flagged_changes (round_after k u.rounds) (neither c.state.in_force c.taken_back)) (inverse_flagged (tables_before u k) (round_after k u.rounds) c.state.in_force count)
+
+    -- the changes of the switch that aren't taken back
+    abbrev NoneBack : Type 0
+    NoneBack = (i : ℕ) (d : Change) → slice_get (round_after k u.rounds) i ≡ Some d → eqb (switch_of d).0 s.0 ≡ true → slice_get c.taken_back i ≡ Some false
+
+    never_both : (b : Bool) → Some b ≡ Some true → b ≡ false → ⊥
+    never_both b e off = let f : b ≡ true = cc in let g : true ≡ false = sym f ∙ off in cc
+
+    on_flags : FlagsAt u good turnable calls ok k c.state.in_force s true → changes_at s (flagged_changes (round_after k u.rounds) c.state.in_force) ≡ changes_at s (round_after k u.rounds)
+    on_flags f = flagged_all c.state.in_force (round_after k u.rounds) s f.are
+
+    off_flags : FlagsAt u good turnable calls ok k c.state.in_force s false → changes_at s (flagged_changes (round_after k u.rounds) c.state.in_force) ≡ []
+    off_flags f = flagged_none c.state.in_force (round_after k u.rounds) s (λ i d there here e. never_both false (sym (f.are i d there here) ∙ e) refl)
+
+    unmade_all : FlagsAt u good turnable calls ok k c.state.in_force s false → NoneBack → changes_at s (flagged_changes (round_after k u.rounds) (neither c.state.in_force c.taken_back)) ≡ changes_at s (round_after k u.rounds)
+    unmade_all f none = flagged_all (neither c.state.in_force c.taken_back) (round_after k u.rounds) s (λ i d there here. (neither_at c.state.in_force c.taken_back i).1 (f.are i d there here, none i d there here))
+
+    unmade_none : FlagsAt u good turnable calls ok k c.state.in_force s true → changes_at s (flagged_changes (round_after k u.rounds) (neither c.state.in_force c.taken_back)) ≡ []
+    unmade_none f =
+        flagged_none (neither c.state.in_force c.taken_back) (round_after k u.rounds) s
+        (λ i d there here e. never_both false (sym ((neither_at c.state.in_force c.taken_back i).0 e).0 ∙ f.are i d there here) refl)
+
+    inverses_at : changes_at s (inverse_round (tables_before u k) (flagged_changes (round_after k u.rounds) c.state.in_force)) ≡ inverse_round (tables_before u k) (changes_at s (flagged_changes (round_after k u.rounds) c.state.in_force))
+    inverses_at = inverse_at_switch (tables_before u k) s (flagged_changes (round_after k u.rounds) c.state.in_force)
+
+    split_at_switch : c.is_undone ≡ true → length c.state.in_force ≡ length (round_after k u.rounds)
+        → changes_at s (pending_in u c)
+        ≡ inverse_round (tables_before u k) (changes_at s (flagged_changes (round_after k u.rounds) c.state.in_force)) ++ changes_at s (flagged_changes (round_after k u.rounds) (neither c.state.in_force c.taken_back))
+    split_at_switch back count =
+        ap (changes_at s) (pending_undone back count)
+        ∙ filter_two (λ d. (switch_of d).0 == s.0) (inverse_round (tables_before u k) (flagged_changes (round_after k u.rounds) c.state.in_force)) (flagged_changes (round_after k u.rounds) (neither c.state.in_force c.taken_back))
+        ∙ ap (λ l. l ++ changes_at s (flagged_changes (round_after k u.rounds) (neither c.state.in_force c.taken_back))) inverses_at
+
+    back_at : c.is_undone ≡ true → FlagsAt u good turnable calls ok k c.state.in_force s true → changes_at s (pending_in u c) ≡ changes_at s (round_after k (inverse_rounds u.old u.rounds))
+    back_at back f =
+        split_at_switch back f.count
+        ∙ ap (λ l. inverse_round (tables_before u k) (changes_at s (flagged_changes (round_after k u.rounds) c.state.in_force)) ++ l) (unmade_none f)
+        ∙ append-nil (inverse_round (tables_before u k) (changes_at s (flagged_changes (round_after k u.rounds) c.state.in_force)))
+        ∙ ap (inverse_round (tables_before u k)) (on_flags f)
         ∙ sym (inverse_at_switch (tables_before u k) s (round_after k u.rounds)) ∙ ap (changes_at s) (sym (back_is u good k less old))
 
-    forth_at : FlagsAt u good turnable calls ok k flags s false
-        → changes_at s (inverse_round (tables_before u k) (changes_on flags (round_after k u.rounds)) ++ changes_off flags (round_after k u.rounds)) ≡ changes_at s (round_after k u.rounds)
-    forth_at f =
-        filter_two (λ c. (switch_of c).0 == s.0) (inverse_round (tables_before u k) (changes_on flags (round_after k u.rounds))) (changes_off flags (round_after k u.rounds))
-        ∙ ap (λ l. l ++ changes_at s (changes_off flags (round_after k u.rounds)))
-        (inverse_at_switch (tables_before u k) s (changes_on flags (round_after k u.rounds)) ∙ ap (inverse_round (tables_before u k)) (on_at false f))
-        ∙ off_at false f
+    forth_at : c.is_undone ≡ true → FlagsAt u good turnable calls ok k c.state.in_force s false → NoneBack → changes_at s (pending_in u c) ≡ changes_at s (round_after k u.rounds)
+    forth_at back f none =
+        split_at_switch back f.count
+        ∙ ap (λ l. inverse_round (tables_before u k) l ++ changes_at s (flagged_changes (round_after k u.rounds) (neither c.state.in_force c.taken_back))) (off_flags f)
+        ∙ unmade_all f none
 
-    -- a table between those before the round and those behind it, beside a logged one
-    logged_onward : (on : Key → Bool) (rules logged : List Rule) (b : Bool) → HoldsBy (λ c. cond c (rules_at (tables_before u (suc k)) s) (rules_at (tables_before u k) s)) on rules
-        → IsSameSet logged (cond b (rules_at (tables_before u (suc k)) s) (rules_at (tables_before u k) s)) → FlagsAt u good turnable calls ok k flags s b
-        → (b ≡ true → IsSameSet rules (rules_at (tables_before u (suc k)) s)) → IsMixture logged (changes_at s (changes_off flags (round_after k u.rounds))) rules
-    logged_onward on rules logged true holds same f firm =
-        mixed_none logged rules (changes_at s (changes_off flags (round_after k u.rounds))) (same_through rules (rules_at (tables_before u (suc k)) s) logged (firm refl) (flip logged (rules_at (tables_before u (suc k)) s) same))
-    logged_onward on rules logged false holds same f firm =
-        subst (λ cs. IsMixture logged cs rules) (sym (off_at false f)) (from_before u good old k less s on rules logged holds same)
+    -- a table between those before the round and those behind it, beside one by the schedule
+    logged_onward : (on : Key → Bool) (rules logged : List Rule) (b : Bool) → HoldsBy (λ t. cond t (rules_at (tables_before u (suc k)) s) (rules_at (tables_before u k) s)) on rules
+        → IsSameSet logged (cond b (rules_at (tables_before u (suc k)) s) (rules_at (tables_before u k) s)) → FlagsAt u good turnable calls ok k c.state.in_force s b
+        → (b ≡ true → IsSameSet rules (rules_at (tables_before u (suc k)) s)) → c.is_undone ≡ false → NoneBack → IsMixture logged (changes_at s (pending_in u c)) rules
+    logged_onward on rules logged true holds same f firm forward none =
+        mixed_none logged rules (changes_at s (pending_in u c)) (same_through rules (rules_at (tables_before u (suc k)) s) logged (firm refl) (flip logged (rules_at (tables_before u (suc k)) s) same))
+    logged_onward on rules logged false holds same f firm forward none =
+        subst (λ cs. IsMixture logged cs rules) (sym (ap (changes_at s) (pending_onward forward) ∙ unmade_all f none)) (from_before u good old k less s on rules logged holds same)
 
-    logged_undone : (on : Key → Bool) (rules logged : List Rule) (b : Bool) → HoldsBy (λ c. cond c (rules_at (tables_before u (suc k)) s) (rules_at (tables_before u k) s)) on rules
-        → IsSameSet logged (cond b (rules_at (tables_before u (suc k)) s) (rules_at (tables_before u k) s)) → FlagsAt u good turnable calls ok k flags s b
-        → IsMixture logged (changes_at s (inverse_round (tables_before u k) (changes_on flags (round_after k u.rounds)) ++ changes_off flags (round_after k u.rounds))) rules
-    logged_undone on rules logged true holds same f = subst (λ cs. IsMixture logged cs rules) (sym (back_at f)) (from_behind u good old k less s on rules logged holds same)
-    logged_undone on rules logged false holds same f = subst (λ cs. IsMixture logged cs rules) (sym (forth_at f)) (from_before u good old k less s on rules logged holds same)
+    logged_undone : (on : Key → Bool) (rules logged : List Rule) (b : Bool) → HoldsBy (λ t. cond t (rules_at (tables_before u (suc k)) s) (rules_at (tables_before u k) s)) on rules
+        → IsSameSet logged (cond b (rules_at (tables_before u (suc k)) s) (rules_at (tables_before u k) s)) → FlagsAt u good turnable calls ok k c.state.in_force s b
+        → (asked : Option ℕ) → (asked ≡ None → IsSameSet rules (rules_at (tables_before u k) s)) → c.is_undone ≡ true → (is_some asked ≡ true → NoneBack) → IsMixture logged (changes_at s (pending_in u c)) rules
+    logged_undone on rules logged true holds same f asked done back none = subst (λ cs. IsMixture logged cs rules) (sym (back_at back f)) (from_behind u good old k less s on rules logged holds same)
+    logged_undone on rules logged false holds same f None done back none =
+        mixed_none logged rules (changes_at s (pending_in u c)) (same_through rules (rules_at (tables_before u k) s) logged (done refl) (flip logged (rules_at (tables_before u k) s) same))
+    logged_undone on rules logged false holds same f (Some x) done back none =
+        subst (λ cs. IsMixture logged cs rules) (sym (forth_at back f (none refl))) (from_before u good old k less s on rules logged holds same)
 
-  logged_by : (stage : Stage) → IsStageWithin u.rounds stage → (calls : List Call) (ok : AllByRecursion (IsCall u.net) calls) (flags : List Bool) (s : SwitchId) (on : Key → Bool) (rules logged : List Rule) (b : Bool)
-      → HoldsBy (sides u stage s) on rules → IsSameSet logged (sides u stage s b) → FlagsIn u good turnable calls ok stage flags s b
-      → (IsOnward u good old turnable sized stage → b ≡ true → IsSameSet rules (goal_of u stage s)) → IsMixture logged (changes_at s (pending_by u stage flags)) rules
-  logged_by (Settled k) within calls ok flags s on rules logged b holds same f firm =
-      mixed_none logged rules [] (same_through rules (rules_at (tables_before u k) s) logged holds (flip logged (rules_at (tables_before u k) s) same))
-  logged_by (Onward k) within calls ok flags s on rules logged b holds same f firm = logged_onward k within calls ok flags s on rules logged b holds same f (firm tt)
-  logged_by (Undone k) within calls ok flags s on rules logged b holds same f firm = logged_undone k within calls ok flags s on rules logged b holds same f
+  logged_by : (stage : Stage) → IsStageWithin u.rounds stage → (calls : List Call) (ok : AllByRecursion (IsCall u.net) calls) (peers : List PeerState) (c : CourseState) → c.state.phase ≡ phase_of stage
+      → Stands u good old turnable stage peers c → (s : SwitchId) (on : Key → Bool) (rules logged : List Rule) (b : Bool)
+      → HoldsBy (sides u stage s) on rules → IsSameSet logged (sides u stage s b) → FlagsIn u good turnable calls ok stage c.state.in_force s b
+      → (IsOnward u good old turnable sized stage → b ≡ true → IsSameSet rules (goal_of u stage s)) → ((get_or peers s.0 first_peer).asked ≡ None → IsSameSet rules (goal_of u stage s))
+      → IsMixture logged (changes_at s (pending_in u c)) rules
+  logged_by (Settled k) within calls ok peers c at stands s on rules logged b holds same f firm done =
+      mixed_none logged rules (changes_at s (pending_in u c)) (same_through rules (rules_at (tables_before u k) s) logged holds (flip logged (rules_at (tables_before u k) s) same))
+  logged_by (Onward k) within calls ok peers c at stands s on rules logged b holds same f firm done =
+      logged_onward k within calls ok c at s on rules logged b holds same f (firm tt) stands.way (λ i d there here. stands.held i d there)
+  logged_by (Undone k) within calls ok peers c at stands s on rules logged b holds same f firm done =
+      logged_undone k within calls ok c at s on rules logged b holds same f (get_or peers s.0 first_peer).asked done stands.way
+      (λ some i d there here. stands.held i d there (ap (λ (n : ℕ). is_some (get_or peers n first_peer).asked) (eqb-true (switch_of d).0 s.0 here) ∙ some))
 
   pub tables_on_wire : (fits : (k : ℕ) (s : SwitchId) → k < length u.rounds → s.0 < switch_count u.net → need_of u k s ≤ capacity_of u.net s) → AllOnce u.old
       → ((s : SwitchId) → s.0 < switch_count u.net → length (rules_at u.old s) ≤ capacity_of u.net s) → AreTablesOnWire u
@@ -211,12 +270,24 @@ module _ (u : Rollout) (good : AreGoodRounds u) (old : AllByRecursion IsTable u.
             let d = (driver_at u st.calls).state in
             let b = get_or d.in_force s.0 false in
             let link = (h.keeps.links s less).alive alive in
-            subst (IsMixture (rules_at (logged_state u st.calls).tables s) (changes_at s (pending_by u (stage_at u st.calls) (logged_state u st.calls).in_force))) (h.keeps.like s alive)
-            (logged_by (stage_at u st.calls) h.keeps.within st.calls h.calls (logged_state u st.calls).in_force s (h.keeps.on s) (rules_at h.keeps.seen s) (rules_at (logged_state u st.calls).tables s) b
-            (h.keeps.holds s) (logged_at u good turnable st.calls h.calls s) (flags_logged u good turnable st.calls h.calls s)
-            (λ onward flag.
-            let none = asked_none (peer_at d s).asked (λ some. both_ways b ((h.keeps.logs s less).firm onward some) flag) in
-            goal_reached (stage_at u st.calls) h.keeps.within (h.keeps.on s) s (rules_at h.keeps.seen s) (h.keeps.holds s) (link.rest none).done));
+            let c = recorded_course u st.calls in
+            let r = recorded_from u good old turnable st.calls h.calls in
+            let is = is_recorded u good old turnable st.calls h.calls in
+            let says : SaysRun (rollout_of u.net u.old u.rounds) (driver_at u st.calls).state = says_run u.net u.rounds (inverse_rounds u.old u.rounds) u.old good turnable st.calls h.calls in
+            let lead : state_after_two_way u (course_events u (recorded_steps u st.calls)) ≡ logged_state u st.calls = ap (state_after_two_way u) is.events in
+            let at : c.state.phase ≡ phase_of d.stage = sym is.both_ways.phase ∙ ap (λ (x : TwoWayState). x.phase) lead ∙ says.phase in
+            let in_force : (logged_state u st.calls).in_force ≡ c.state.in_force = sym (ap (λ (x : TwoWayState). x.in_force) lead) ∙ is.both_ways.in_force in
+            let tables : IsSameSet (rules_at c.state.tables s) (rules_at (logged_state u st.calls).tables s) =
+            subst (λ (x : TwoWayState). IsSameSet (rules_at c.state.tables s) (rules_at x.tables s)) lead (is.both_ways.tables s) in
+            let logged : IsSameSet (rules_at c.state.tables s) (sides u d.stage s b) =
+            same_through (rules_at c.state.tables s) (rules_at (logged_state u st.calls).tables s) (sides u d.stage s b) tables (logged_at u good turnable st.calls h.calls s) in
+            let done : (peer_at d s).asked ≡ None → IsSameSet (rules_at h.keeps.seen s) (goal_of u (stage_at u st.calls) s) = λ none.
+            goal_reached (stage_at u st.calls) h.keeps.within (h.keeps.on s) s (rules_at h.keeps.seen s) (h.keeps.holds s) (link.rest none).done in
+            subst (IsMixture (rules_at c.state.tables s) (changes_at s (pending_in u c))) (h.keeps.like s alive)
+            (logged_by (stage_at u st.calls) h.keeps.within st.calls h.calls d.peers c at r.stands s (h.keeps.on s) (rules_at h.keeps.seen s) (rules_at c.state.tables s) b
+            (h.keeps.holds s) logged (subst (λ fs. FlagsIn u good turnable st.calls h.calls (stage_at u st.calls) fs s b) in_force (flags_logged u good turnable st.calls h.calls s))
+            (λ onward flag. done (asked_none (peer_at d s).asked (λ some. both_ways b ((h.keeps.logs s less).firm onward some) flag))) done);
+        recorded = is_recorded u good old turnable st.calls h.calls;
         fits = λ s less alive. has_room u good fits once_old old_fits (stage_at u st.calls) (within_stage (stage_at u st.calls) h.keeps.within) s less (rules_at st.tables s) (once_on_wire u once_old events run s) (mixed s less alive);
       }
     where

@@ -10,6 +10,8 @@ pub mod Keeps
 pub mod Feeds
 pub mod Starts
 pub mod Logged
+pub mod Ways
+pub mod Recorded
 pub mod Steps
 pub mod Runs
 pub mod Pending

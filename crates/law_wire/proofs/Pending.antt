@@ -1,5 +1,5 @@
 -- A table on the wire is that of the logged events with some of the pending changes made besides.
-use Rattle.std.proofs.Common.{◌≡◌, ◌⊎◌, ℕ, zero, suc, ◌<◌, Bool, true, false, cond, eqb, not, List, [], ◌∷◌, ◌++◌, length, map, filter, refl, sym, ◌∙◌, subst, ap, inl, inr, append-nil, arith}
+use Rattle.std.proofs.Common.{◌≡◌, ◌⊎◌, ℕ, suc, ◌<◌, Bool, true, false, cond, eqb, not, List, [], ◌∷◌, ◌++◌, length, map, filter, refl, sym, ◌∙◌, subst, ap, inl, inr, append-nil}
 use Rattle.std.specs.Prelude.{◌↔◌, ◌==◌, Some, None, slice_get}
 use Rattle.std.specs.List.{AllByRecursion}
 use Rattle.std.proofs.lemmas.Bool.{cases_Bool, cond-true, cond-false, both_ways}
@@ -14,11 +14,12 @@ use Rattle.update_model.specs.Mixtures.{Rollout, AreGoodRounds, IsMixture, table
 use Rattle.update_model.specs.declared.Change.{Change}
 use Rattle.update_model.specs.declared.Change.TheVariants.{Insert, Delete, Replace}
 use Rattle.update_model.proofs.ChangeLaws.{key_named, writes_key, StandsAfterAll, stands_all_from_in, in_from_stands_all}
-use Rattle.update_model.proofs.MadeLaws.{made_of, distinct_some, each_some, keys_distinct, apply_there}
+use Rattle.update_model.proofs.MadeLaws.{distinct_some, each_some, keys_distinct, apply_there}
 use Rattle.law_two_way_runs.specs.Inverse.{inverse_of, inverse_round}
 use Rattle.law_two_way_runs.proofs.Inverses.{inverse_is_good, switch_inverse}
 use Rattle.round_inverses.specs.Rounds.{inverse_rounds}
-use Rattle.law_wire.specs.Laws.{changes_on}
+use Rattle.law_courses.specs.Pending.{flagged_changes}
+use Rattle.law_courses.proofs.PendingLaws.{no_flags}
 use Rattle.law_wire.proofs.Entries.{HoldsBy, LeadsTo, flow_of, flow_key, leads_onward, left_alone}
 use Rattle.law_wire.proofs.Sides.{applies_at, distinct_at, next_at, back_leads, back_names, back_is}
 use Rattle.flow_rules.proofs.KeyLaws.{cases_key}
@@ -106,38 +107,46 @@ mixed_none before rules cs same = record { made = []; some = tt; same = same }
 
 -- ---- which changes are pending at a switch
 
-pub flagged_at : (flags : List Bool) (changes : List Change) (s : SwitchId) (b : Bool) → length flags ≡ length changes
-    → ((i : ℕ) (c : Change) → slice_get changes i ≡ Some c → eqb (switch_of c).0 s.0 ≡ true → slice_get flags i ≡ Some b) → changes_at s (changes_on flags changes) ≡ cond b (changes_at s changes) []
-flagged_at [] [] s true count are = refl
-flagged_at [] [] s false count are = refl
-flagged_at [] (c ∷ changes) s b count are = absurd (omega arith)
-flagged_at (f ∷ flags) [] s b count are = absurd (omega arith)
-flagged_at (f ∷ flags) (c ∷ changes) s b count are =
-    let rest = flagged_at flags changes s b (omega arith) (λ i d at here. are (suc i) d at here) in
+-- all of a switch's changes have their flags on
+pub flagged_all : (flags : List Bool) (changes : List Change) (s : SwitchId) → ((i : ℕ) (c : Change) → slice_get changes i ≡ Some c → eqb (switch_of c).0 s.0 ≡ true → slice_get flags i ≡ Some true)
+    → changes_at s (flagged_changes changes flags) ≡ changes_at s changes
+flagged_all flags [] s are = refl
+flagged_all [] (c ∷ changes) s are =
+    elim (cases_Bool (eqb (switch_of c).0 s.0)) [
+      | inl here ↦ absurd (let f : None ≡ Some true = are 0 c refl here in cc)
+      | inr away ↦ ap (changes_at s) (sym (no_flags changes)) ∙ flagged_all [] changes s (λ i d at here. absurd (let f : None ≡ Some true = are (suc i) d at here in cc))
+          ∙ sym (cond-false (eqb (switch_of c).0 s.0) (c ∷ changes_at s changes) (changes_at s changes) away)
+    ]
+flagged_all (f ∷ flags) (c ∷ changes) s are =
+    let rest = flagged_all flags changes s (λ i d at here. are (suc i) d at here) in
     elim (cases_Bool (eqb (switch_of c).0 s.0)) [
       | inl here ↦ (
-          let first : Some f ≡ Some b = are 0 c refl here in
-          let same : f ≡ b = cc in
-          subst (λ (g : Bool). changes_at s (changes_on (g ∷ flags) (c ∷ changes)) ≡ cond b (changes_at s (c ∷ changes)) []) (sym same) (by b here rest))
+          let first : Some f ≡ Some true = are 0 c refl here in
+          let on : f ≡ true = cc in
+          subst (λ (g : Bool). changes_at s (flagged_changes (c ∷ changes) (g ∷ flags)) ≡ changes_at s (c ∷ changes)) (sym on)
+          (cond-true (eqb (switch_of c).0 s.0) (c ∷ changes_at s (flagged_changes changes flags)) (changes_at s (flagged_changes changes flags)) here ∙ ap (λ l. c ∷ l) rest
+          ∙ sym (cond-true (eqb (switch_of c).0 s.0) (c ∷ changes_at s changes) (changes_at s changes) here)))
       | inr away ↦ past f away rest
     ]
   where
-    by : (b : Bool) → eqb (switch_of c).0 s.0 ≡ true → changes_at s (changes_on flags changes) ≡ cond b (changes_at s changes) [] → changes_at s (changes_on (b ∷ flags) (c ∷ changes)) ≡ cond b (changes_at s (c ∷ changes)) []
-    by true here rest =
-        cond-true (eqb (switch_of c).0 s.0) (c ∷ changes_at s (changes_on flags changes)) (changes_at s (changes_on flags changes)) here ∙ ap (λ l. c ∷ l) rest
-        ∙ sym (cond-true (eqb (switch_of c).0 s.0) (c ∷ changes_at s changes) (changes_at s changes) here)
-    by false here rest = rest
-
-    past : (f : Bool) → eqb (switch_of c).0 s.0 ≡ false → changes_at s (changes_on flags changes) ≡ cond b (changes_at s changes) [] → changes_at s (changes_on (f ∷ flags) (c ∷ changes)) ≡ cond b (changes_at s (c ∷ changes)) []
+    past : (f : Bool) → eqb (switch_of c).0 s.0 ≡ false → changes_at s (flagged_changes changes flags) ≡ changes_at s changes → changes_at s (flagged_changes (c ∷ changes) (f ∷ flags)) ≡ changes_at s (c ∷ changes)
     past true away rest =
-        cond-false (eqb (switch_of c).0 s.0) (c ∷ changes_at s (changes_on flags changes)) (changes_at s (changes_on flags changes)) away ∙ rest
-        ∙ ap (λ l. cond b l []) (sym (cond-false (eqb (switch_of c).0 s.0) (c ∷ changes_at s changes) (changes_at s changes) away))
-    past false away rest = rest ∙ ap (λ l. cond b l []) (sym (cond-false (eqb (switch_of c).0 s.0) (c ∷ changes_at s changes) (changes_at s changes) away))
+        cond-false (eqb (switch_of c).0 s.0) (c ∷ changes_at s (flagged_changes changes flags)) (changes_at s (flagged_changes changes flags)) away ∙ rest
+        ∙ sym (cond-false (eqb (switch_of c).0 s.0) (c ∷ changes_at s changes) (changes_at s changes) away)
+    past false away rest = rest ∙ sym (cond-false (eqb (switch_of c).0 s.0) (c ∷ changes_at s changes) (changes_at s changes) away)
 
-pub not_at : (flags : List Bool) (i : ℕ) (b : Bool) → slice_get flags i ≡ Some b → slice_get (map not flags) i ≡ Some (not b)
-not_at [] i b e = absurd (let f : None ≡ Some b = e in cc)
-not_at (x ∷ flags) zero b e = let f : x ≡ b = cc in ap (λ y. Some (not y)) f
-not_at (x ∷ flags) (suc i) b e = not_at flags i b e
+-- none has
+pub flagged_none : (flags : List Bool) (changes : List Change) (s : SwitchId) → ((i : ℕ) (c : Change) → slice_get changes i ≡ Some c → eqb (switch_of c).0 s.0 ≡ true → slice_get flags i ≡ Some true → ⊥)
+    → changes_at s (flagged_changes changes flags) ≡ []
+flagged_none flags [] s are = refl
+flagged_none [] (c ∷ changes) s are = refl
+flagged_none (true ∷ flags) (c ∷ changes) s are =
+    let rest = flagged_none flags changes s (λ i d at here. are (suc i) d at here) in
+    elim (cases_Bool (eqb (switch_of c).0 s.0)) [
+      | inl here ↦ absurd (are 0 c refl here refl)
+      | inr away ↦ cond-false (eqb (switch_of c).0 s.0) (c ∷ changes_at s (flagged_changes changes flags)) (changes_at s (flagged_changes changes flags)) away ∙ rest
+    ]
+flagged_none (false ∷ flags) (c ∷ changes) s are = flagged_none flags changes s (λ i d at here. are (suc i) d at here)
 
 pub filter_two : (p : Change → Bool) (xs ys : List Change) → filter p (xs ++ ys) ≡ filter p xs ++ filter p ys
 filter_two p [] ys = refl

@@ -1,5 +1,5 @@
 -- What holds of every network on the wire whose plan is certified.
-use Rattle.std.specs.Prelude.{◌≡◌, suc, ◌<◌, Bool, List, [], None, false, ◌≤◌, length, true, ◌∷◌, map, not, ◌++◌}
+use Rattle.std.specs.Prelude.{◌≡◌, suc, ◌<◌, Bool, List, [], None, false, ◌≤◌, length}
 use Rattle.std.specs.List.{AllByRecursion}
 use Rattle.net_base.specs.Members.{IsSameSet}
 use Rattle.net_base.specs.declared.ids.SwitchId.{SwitchId}
@@ -11,13 +11,14 @@ use Rattle.update_model.specs.Mixtures.{Rollout, IsMixture, tables_before}
 use Rattle.update_model.specs.declared.Change.{Change}
 use Rattle.certificates.specs.Consistent.{IsConsistentPacket}
 use Rattle.certificates.specs.Updates.{Update}
+use Rattle.law_courses.specs.Pending.{pending_in}
 use Rattle.switch_session.specs.declared.Session.TheVariants.{Open}
 use Rattle.two_way_driver.specs.PeerStates.{PeerState}
 use Rattle.two_way_driver.specs.Drivers.{peer_at}
 use Rattle.two_way_driver.specs.declared.Stage.{Stage}
 use Rattle.two_way_driver.specs.declared.Stage.TheVariants.{Settled, Onward, Undone}
-use Rattle.law_wire.specs.Network.{WireState, WireEvent, IsWireRun, state_on_wire, driver_at, stage_at, IsUnderWayIn, is_gone, logged_state}
-use Rattle.law_two_way_runs.specs.Inverse.{inverse_round}
+use Rattle.law_wire.specs.Network.{WireState, WireEvent, IsWireRun, state_on_wire, driver_at, stage_at, IsUnderWayIn, is_gone}
+use Rattle.law_wire.specs.Recorded.{recorded_course, IsRecorded}
 
 -- each packet is consistent, in every state that comes about on the wire
 abbrev pub IsWireConsistent : Update → List (List Change) → Bool → Type 0
@@ -36,37 +37,22 @@ IsStageTable u (Settled k) s rules = IsSameSet rules (rules_at (tables_before u 
 IsStageTable u (Onward k) s rules = IsMixture (rules_at (tables_before u k) s) (changes_at s (round_after k u.rounds)) rules
 IsStageTable u (Undone k) s rules = IsMixture (rules_at (tables_before u k) s) (changes_at s (round_after k u.rounds)) rules
 
--- those of the changes of a round whose flag is on, or off
-abbrev pub changes_on : List Bool → List Change → List Change
-changes_on [] changes = []
-changes_on (b ∷ flags) [] = []
-changes_on (true ∷ flags) (c ∷ changes) = c ∷ changes_on flags changes
-changes_on (false ∷ flags) (c ∷ changes) = changes_on flags changes
-
-abbrev pub changes_off : List Bool → List Change → List Change
-changes_off flags changes = changes_on (map not flags) changes
-
--- what a switch may have made besides what the events say: of a round that goes forward those of its changes that aren't in force by them; of one that is taken back the
--- inverses of those that are, and those that aren't
-abbrev pub pending_by : Rollout → Stage → List Bool → List Change
-pending_by u (Settled k) in_force = []
-pending_by u (Onward k) in_force = changes_off in_force (round_after k u.rounds)
-pending_by u (Undone k) in_force = inverse_round (tables_before u k) (changes_on in_force (round_after k u.rounds)) ++ changes_off in_force (round_after k u.rounds)
-
 -- the table to which a switch is to come: that behind the running round, or before it where it is taken back
 abbrev pub goal_of : Rollout → Stage → SwitchId → List Rule
 goal_of u (Settled k) s = rules_at (tables_before u k) s
 goal_of u (Onward k) s = rules_at (tables_before u (suc k)) s
 goal_of u (Undone k) s = rules_at (tables_before u k) s
 
--- the tables of a state on the wire, of switches that aren't dead: each is one of the running round, and that to which the events of all blocks lead with some of what is
--- pending made besides; and where the driver waits for no answer of a switch, so that it took
--- the reply to the last barrier request, the switch has all that was asked for before that request. Each is within its switch's capacity
+-- the tables of a state on the wire, of switches that aren't dead: each is one of the running round, and that of command `tables`, for the events of all blocks and the
+-- turns, with some of what is pending by it made besides (`pending_in`); and where the driver waits for no answer of a switch, so that it took
+-- the reply to the last barrier request, the switch has all that was asked for before that request. Each is within its switch's capacity. What is kept of the calls is a
+-- schedule that `tables` takes
 pub record HasTables (u : Rollout) (st : WireState) : Type 0 where
   pub mixed : (s : SwitchId) → s.0 < switch_count u.net → is_gone u st s ≡ false → IsStageTable u (stage_at u st.calls) s (rules_at st.tables s)
   pub answered : (s : SwitchId) → s.0 < switch_count u.net → is_gone u st s ≡ false → (kept_of_switch u st s).asked ≡ None → IsSameSet (rules_at st.tables s) (goal_of u (stage_at u st.calls) s)
   pub logged : (s : SwitchId) → s.0 < switch_count u.net → is_gone u st s ≡ false
-      → IsMixture (rules_at (logged_state u st.calls).tables s) (changes_at s (pending_by u (stage_at u st.calls) (logged_state u st.calls).in_force)) (rules_at st.tables s)
+      → IsMixture (rules_at (recorded_course u st.calls).state.tables s) (changes_at s (pending_in u (recorded_course u st.calls))) (rules_at st.tables s)
+  pub recorded : IsRecorded u st.calls
   pub fits : (s : SwitchId) → s.0 < switch_count u.net → is_gone u st s ≡ false → length (rules_at st.tables s) ≤ capacity_of u.net s
 
 -- in every state that comes about on the wire

@@ -1,3 +1,4 @@
 pub mod Carried
 pub mod Network
+pub mod Recorded
 pub mod Laws

@@ -1,4 +1,5 @@
 pub mod ChainLaws
+pub mod ExitLaws
 pub mod MarkedLaws
 pub mod NotedLaws
 pub mod PlaceLaws

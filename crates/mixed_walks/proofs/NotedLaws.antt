@@ -8,11 +8,12 @@ use Rattle.net_base.specs.declared.ids.SwitchId.{SwitchId}
 use Rattle.net_base.specs.declared.ids.Port.{Port}
 use Rattle.net_base.specs.declared.ids.Vlan.{Vlan}
 use Rattle.net_base.specs.declared.ids.Place.{Place}
+use Rattle.net_base.specs.declared.ids.Stop.{Stop}
 use Rattle.path_walk.specs.declared.Outcome.{Outcome}
 use Rattle.path_walk.specs.declared.Outcome.TheVariants.{Discard, Leave, Go}
 use Rattle.acyclic_numbering.specs.declared.Edge.{Edge}
 use Rattle.mixed_walks.specs.Walks.{WalkState}
-use Rattle.mixed_walks.specs.Walking.{IsNoted, AreFew}
+use Rattle.mixed_walks.specs.Walking.{IsNoted, AreFew, AreFewExits}
 use Rattle.net_base.specs.Switches.{most_switches}
 
 only : {A : Type 0} (x y : A) → IsIn y (x ∷ []) → y ≡ x
@@ -45,11 +46,13 @@ module _ (old : WalkState) (place : Place) where
       λ i. elim ((members s).0 i) [ inl j ↦ inl j | inr e ↦ inr (e, inl refl) ],
       λ h. (members s).1 (elim h [ inl j ↦ inl j | inr g ↦ inr g.0 ]),
     );
+    exits = λ stop. none_more (λ h. let e : Leave stop.port h.1.0 ≡ Discard = only Discard (Leave stop.port h.1.0) h.1.1 in cc);
   }
 
   -- a leaving
-  pub leave_noted : (port : Port) (vlan : Vlan) (put : List SwitchId) → ((s : SwitchId) → IsIn s put ↔ (IsIn s old.leaving ⊎ (s ≡ place.switch))) → IsNoted old place (Leave port vlan ∷ []) (record old { leaving = put })
-  leave_noted port vlan put members = record {
+  pub leave_noted : (port : Port) (vlan : Vlan) (put : List SwitchId) (exits : List Stop) → ((s : SwitchId) → IsIn s put ↔ (IsIn s old.leaving ⊎ (s ≡ place.switch)))
+      → ((stop : Stop) → IsIn stop exits ↔ (IsIn stop old.exits ⊎ (stop ≡ record { switch = place.switch; port = port }))) → IsNoted old place (Leave port vlan ∷ []) (record old { leaving = put; exits = exits })
+  leave_noted port vlan put exits members out = record {
     more = [];
     behind = sym (append-nil old.places);
     once = λ h. h;
@@ -60,7 +63,21 @@ module _ (old : WalkState) (place : Place) where
       λ h. (members s).1 (elim h [ inl j ↦ inl j | inr g ↦ inr g.0 ]),
     );
     dropping = λ s. none_more (λ h. let e : Discard ≡ Leave port vlan = only (Leave port vlan) Discard h.1 in cc);
+    exits = λ stop. (
+      λ i. elim ((out stop).0 i) [ inl j ↦ inl j | inr e ↦ inr (ap (λ (x : Stop). x.switch) e, (vlan, inl (ap (λ (x : Stop). Leave x.port vlan) e))) ],
+      λ h. (out stop).1 (elim h [
+        | inl j ↦ inl j
+        | inr g ↦ inr (
+            let e : Leave stop.port g.1.0 ≡ Leave port vlan = only (Leave port vlan) (Leave stop.port g.1.0) g.1.1 in
+            let f : stop.port ≡ port = cc in
+            stop_is stop place.switch port g.0 f)
+      ]),
+    );
   }
+    where
+      stop_is : (stop : Stop) (s : SwitchId) (p : Port) → stop.switch ≡ s → stop.port ≡ p → stop ≡ record { switch = s; port = p }
+      stop_is stop s p e f =
+          ap (λ (x : SwitchId). let y : Stop = record { switch = x; port = stop.port } in y) e ∙ ap (λ (q : Port). let y : Stop = record { switch = s; port = q } in y) f
 
   -- a step to a next place
   pub go_noted : (next : Place) (steps : List Edge) (places more : List Place)
@@ -90,6 +107,7 @@ module _ (old : WalkState) (place : Place) where
     );
     leaving = λ s. none_more (λ h. let e : Leave h.1.0 h.1.1 ≡ Go next = only (Go next) (Leave h.1.0 h.1.1) h.1.2 in cc);
     dropping = λ s. none_more (λ h. let e : Discard ≡ Go next = only (Go next) Discard h.1 in cc);
+    exits = λ stop. none_more (λ h. let e : Leave stop.port h.1.0 ≡ Go next = only (Go next) (Leave stop.port h.1.0) h.1.1 in cc);
   }
     where
       same_step : (s v t w : SwitchId) → s ≡ v → t ≡ w → step_between s t ≡ step_between v w
@@ -160,6 +178,19 @@ module _ (old : WalkState) (place : Place) where
           ]
         ],
       );
+      exits = λ stop. (
+        λ i. elim ((second.exits stop).0 i) [
+          | inl j ↦ elim ((first.exits stop).0 j) [ inl k ↦ inl k | inr g ↦ inr (g.0, (g.1.0, early (Leave stop.port g.1.0) g.1.1)) ]
+          | inr g ↦ inr (g.0, (g.1.0, late (Leave stop.port g.1.0) g.1.1))
+        ],
+        λ h. elim h [
+          | inl k ↦ (second.exits stop).1 (inl ((first.exits stop).1 (inl k)))
+          | inr g ↦ elim (in_append_cases (Leave stop.port g.1.0) found (x ∷ []) g.1.1) [
+            | inl l ↦ (second.exits stop).1 (inl ((first.exits stop).1 (inr (g.0, (g.1.0, l)))))
+            | inr l ↦ (second.exits stop).1 (inr (g.0, (g.1.0, l)))
+          ]
+        ],
+      );
     }
 
   -- the places stay few
@@ -172,6 +203,19 @@ module _ (old : WalkState) (place : Place) where
     near = few.near;
     stood = λ p i. elim ((noted.places p).0 i) [ inl j ↦ few.stood p j | inr j ↦ few.led_to p (within (Go p) j) ];
     led_to = λ p i. few.led_to p (subst (λ y. IsIn y all) (sym (only x (Go p) i)) x_in);
+  }
+
+  -- and so do the exits
+  pub few_exits_still : (all found : List Outcome) (x : Outcome) (mid : WalkState) → AreFewExits old.exits place all → IsNoted old place found mid → ((y : Outcome) → IsIn y found → IsIn y all) → IsIn x all
+      → AreFewExits mid.exits place (x ∷ [])
+  few_exits_still all found x mid few noted within x_in = record {
+    ends = few.ends;
+    few = few.few;
+    stood = λ stop i. elim ((noted.exits stop).0 i) [
+      | inl j ↦ few.stood stop j
+      | inr g ↦ subst (λ (s : SwitchId). let y : Stop = record { switch = s; port = stop.port } in IsIn y few.ends) (sym g.0) (few.led_to stop.port g.1.0 (within (Leave stop.port g.1.0) g.1.1))
+    ];
+    led_to = λ port vlan i. few.led_to port vlan (subst (λ y. IsIn y all) (sym (only x (Leave port vlan) i)) x_in);
   }
 
 -- there is room for a next place

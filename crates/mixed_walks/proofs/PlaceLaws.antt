@@ -5,17 +5,18 @@ use Rattle.std.specs.List.{AllByRecursion, list_any}
 use Rattle.net_base.specs.Members.{IsIn}
 use Rattle.net_base.specs.Walks.{IsWalk, end_of}
 use Rattle.net_base.specs.Places.{stop_of}
-use Rattle.net_base.proofs.MemberLaws.{each_at, each_last, each_weaker, in_map, in_from_map, in_append_right}
+use Rattle.net_base.proofs.MemberLaws.{each_at, each_last, each_weaker, in_map, in_from_map, in_append_left, in_append_right}
 use Rattle.net_base.specs.declared.ids.SwitchId.{SwitchId}
 use Rattle.net_base.specs.declared.ids.Port.{Port}
 use Rattle.net_base.specs.declared.ids.Stop.{Stop}
 use Rattle.net_base.specs.declared.ids.Vlan.{Vlan}
+use Rattle.net_base.specs.declared.ids.Vlan.TheVariants.{Untagged}
 use Rattle.net_base.specs.declared.ids.Place.{Place}
-use Rattle.topology.specs.Networks.{Network, IsNetwork, IsPortNumber, switch_count, stop_eq, far_end, end_at, used_ports}
+use Rattle.topology.specs.Networks.{Network, IsNetwork, IsPortNumber, IsUsed, switch_count, stop_eq, far_end, end_at, used_ports}
 use Rattle.topology.specs.declared.net.Link.{Link}
 use Rattle.topology.specs.declared.net.End.{End}
 use Rattle.topology.specs.declared.net.End.TheVariants as at
-use Rattle.topology.proofs.LinkLaws.{ends_of}
+use Rattle.topology.proofs.LinkLaws.{ends_of, in_from_any}
 use Rattle.flow_rules.specs.Tables.{rules_at}
 use Rattle.flow_rules.specs.declared.rules.Rule.{Rule}
 use Rattle.flow_rules.specs.declared.rules.Action.{Action}
@@ -27,7 +28,7 @@ use Rattle.path_walk.specs.declared.Outcome.TheVariants.{Discard, Leave, Go}
 use Rattle.path_walk.proofs.PathLaws.{lookup_each}
 use Rattle.dest_classes.proofs.MapLaws.{few_in_all}
 use Rattle.update_model.specs.Changes.{changes_at, round_after, settled_tables}
-use Rattle.update_model.specs.Mixtures.{Rollout, IsMixture, MayHold, MayGo, IsOnMixedWalk}
+use Rattle.update_model.specs.Mixtures.{Rollout, IsMixture, MayHold, IsPossible, MayGo, IsOnMixedWalk}
 use Rattle.update_model.specs.declared.Change.{Change}
 use Rattle.update_model.proofs.HeldLaws.{each_held, EachRuleOf}
 use Rattle.certificates.specs.Certified.{KeepsVlan}
@@ -137,9 +138,53 @@ acted_at net place (action.Out port rewrite) next keeps e =
       | false ↦ λ f. sent_at net stop (end_at net stop) port place.vlan next refl (ap (sent_outcome (end_at net stop) port) (sym kept) ∙ f)
     ] e
 
+-- ---- where a packet leaves
+
+far_no_host : (stop : Stop) (links : List Link) → ¬ (far_end stop links ≡ at.Host)
+far_no_host stop [] e = let f : at.Nothing ≡ at.Host = e in cc
+far_no_host stop (l ∷ links) e =
+    elim (stop_eq stop l.one) as (λ b. ¬ (cond b (at.Link l.other.switch l.other.port) (cond (stop_eq stop l.other) (at.Link l.one.switch l.one.port) (far_end stop links)) ≡ at.Host)) [
+      | true ↦ λ f. let g : at.Link l.other.switch l.other.port ≡ at.Host = f in cc
+      | false ↦ elim (stop_eq stop l.other) as (λ b. ¬ (cond b (at.Link l.one.switch l.one.port) (far_end stop links) ≡ at.Host)) [
+        | true ↦ λ f. let g : at.Link l.one.switch l.one.port ≡ at.Host = f in cc
+        | false ↦ far_no_host stop links
+      ]
+    ] e
+
+host_in : (net : Network) (stop : Stop) → end_at net stop ≡ at.Host → IsIn stop net.hosts
+host_in net stop e =
+    elim (list_any (stop_eq stop) net.hosts) as (λ b. list_any (stop_eq stop) net.hosts ≡ b → cond b at.Host (far_end stop net.links) ≡ at.Host → IsIn stop net.hosts) [
+      | true ↦ λ found _. in_from_any stop net.hosts found
+      | false ↦ λ _ f. absurd (far_no_host stop net.links f)
+    ] refl e
+
+sent_out : (net : Network) (s : SwitchId) (end : End) (port left : Port) (v w : Vlan) → end_at net (record { switch = s; port = port }) ≡ end → sent_outcome end port v ≡ Leave left w
+    → IsIn (record { switch = s; port = left }) net.hosts
+sent_out net s at.Nothing port left v w is e = absurd (let f : Discard ≡ Leave left w = e in cc)
+sent_out net s (at.Link far p) port left v w is e = absurd (let f : Go (record { switch = far; port = p; vlan = v }) ≡ Leave left w = e in cc)
+sent_out net s at.Host port left v w is e =
+    let f : Leave port v ≡ Leave left w = e in
+    let g : port ≡ left = cc in
+    subst (λ (p : Port). let stop : Stop = record { switch = s; port = p } in IsIn stop net.hosts) g (host_in net (record { switch = s; port = port }) is)
+
+acted_out : (net : Network) (place : Place) (a : Action) (left : Port) (w : Vlan) → action_outcome net place a ≡ Leave left w → IsIn (record { switch = place.switch; port = left }) net.hosts
+acted_out net place action.Discard left w e = absurd (let f : Discard ≡ Leave left w = e in cc)
+acted_out net place (action.Out port rewrite) left w e =
+    let stop : Stop = record { switch = place.switch; port = port } in
+    let v = rewritten_vlan rewrite place.vlan in
+    elim (port.0 == place.port.0) as (λ b. cond b Discard (sent_outcome (end_at net stop) port v) ≡ Leave left w → IsIn (record { switch = place.switch; port = left }) net.hosts) [
+      | true ↦ λ f. absurd (let g : Discard ≡ Leave left w = f in cc)
+      | false ↦ λ f. sent_out net place.switch (end_at net stop) port left v w refl f
+    ] e
+
+-- a packet leaves by a port that is used
+pub leaves_by_used : (u : Rollout) (k dst : ℕ) (place : Place) (port : Port) (vlan : Vlan) → IsPossible u k dst place (Leave port vlan) → IsUsed u.net (record { switch = place.switch; port = port })
+leaves_by_used u k dst place port vlan leaves =
+    in_append_left (record { switch = place.switch; port = port }) u.net.hosts (ends_of u.net.links) (acted_out u.net place _ port vlan (sym leaves.is))
+
 -- ---- the places of mixed walks
 
-abbrev place_at : Vlan → Stop → Place
+abbrev pub place_at : Vlan → Stop → Place
 place_at v stop = record { switch = stop.switch; port = stop.port; vlan = v }
 
 -- the entry, and the ends of links with its VLAN
@@ -187,6 +232,13 @@ few_ports net vlan is =
     let all = few_in_all (length net.names) 64 (used_ports net) is.few_ports (each_weaker (IsWithin net) (λ (x : Stop). x.switch.0 < length net.names) (λ x p. p.0) (used_ports net) is.ports) in
     let same = length-map (used_ports net) (place_at vlan) in
     let few = is.few in
+    omega arith
+
+-- as many as the ports
+pub few_used : (net : Network) → IsNetwork net → length (used_ports net) ≤ 8193
+few_used net is =
+    let few = few_ports net Untagged is in
+    let same = length-map (used_ports net) (place_at Untagged) in
     omega arith
 
 -- and at switches of the network

@@ -10,7 +10,8 @@ use Rattle.net_base.proofs.MemberLaws.{each_at, each_from_in}
 use Rattle.net_base.specs.declared.ids.SwitchId.{SwitchId}
 use Rattle.net_base.specs.declared.ids.Vlan.{Vlan}
 use Rattle.net_base.specs.declared.ids.Place.{Place}
-use Rattle.topology.specs.Networks.{Network, IsNetwork, switch_count, IsUsed}
+use Rattle.net_base.specs.declared.ids.Stop.{Stop}
+use Rattle.topology.specs.Networks.{Network, IsNetwork, switch_count, IsUsed, used_ports}
 use Rattle.path_walk.specs.declared.Outcome.TheVariants.{Discard, Leave, Go}
 use Rattle.update_model.specs.Mixtures.{Rollout, IsPossible, MayGo, IsOnMixedWalk}
 use Rattle.round_mix.specs.Prepared.{MixedState}
@@ -18,10 +19,10 @@ use Rattle.acyclic_numbering.specs.Heights.{IsEdge}
 use Rattle.acyclic_numbering.specs.declared.Edge.{Edge}
 use Rattle.net_base.proofs.WalkLaws.{reached_start, reached_more}
 use Rattle.mixed_walks.specs.Walks.{WalkState, IsRoundOf, IsAtPort, AreTogether}
-use Rattle.mixed_walks.specs.Walking.{HaveRoom, IsExpanded, IsEntered, IsTogetherTo}
+use Rattle.mixed_walks.specs.Walking.{HaveRoom, HaveExitRoom, IsExpanded, IsEntered, IsTogetherTo}
 use Rattle.mixed_walks.proofs.MarkedLaws.{in_push}
 use Rattle.mixed_walks.proofs.NotedLaws.{in_take}
-use Rattle.mixed_walks.proofs.PlaceLaws.{port_places, port_in, few_ports, port_within, ports_within, goes_to_port}
+use Rattle.mixed_walks.proofs.PlaceLaws.{port_places, port_in, few_ports, port_within, ports_within, few_used, leaves_by_used, goes_to_port}
 use Rattle.mixed_walks.proofs.WalkedLaws.{take_at}
 
 take_front : {A : Type 0} (xs more : List A) → take (length xs) (xs ++ more) ≡ xs
@@ -30,9 +31,9 @@ take_front (x ∷ xs) more = ap (λ ys. x ∷ ys) (take_front xs more)
 
 module _ (u : Rollout) (k dst : ℕ) (vlan : Vlan) where
   -- nothing is noted
-  pub together_none : (noted : WalkState) → noted ≡ record { places = []; steps = []; leaving = []; dropping = [] } → AreTogether u k dst vlan noted
+  pub together_none : (noted : WalkState) → noted ≡ record { places = []; steps = []; leaving = []; dropping = []; exits = [] } → AreTogether u k dst vlan noted
   together_none noted nothing =
-      subst (λ (w : WalkState). AreTogether u k dst vlan w) (sym nothing) (record { once = tt; at_port = λ p i. absurd i; covers = λ p i. absurd i; steps_within = tt })
+      subst (λ (w : WalkState). AreTogether u k dst vlan w) (sym nothing) (record { once = tt; at_port = λ p i. absurd i; covers = λ p i. absurd i; exits_used = λ stop i. absurd i; steps_within = tt })
 
   -- at the number of the places that stand there, all of them are walked
   to_all : (noted : WalkState) → AreTogether u k dst vlan noted → IsTogetherTo u k dst vlan (length noted.places) noted
@@ -48,6 +49,10 @@ module _ (u : Rollout) (k dst : ℕ) (vlan : Vlan) where
     leaves = λ p port v i leaves.
         (all.covers p (in_take (length noted.places) p noted.places i)).leaving p.switch
         (record { place = p; port = port; vlan = v; on_walk = reached_start (MayGo u k dst) p; leaves = leaves; at_is = refl });
+    exits = λ p port v i leaves.
+        (all.covers p (in_take (length noted.places) p noted.places i)).exits (record { switch = p.switch; port = port })
+        (record { place = p; vlan = v; on_walk = reached_start (MayGo u k dst) p; leaves = leaves; at_is = refl });
+    exits_used = all.exits_used;
     drops = λ p i drops.
         (all.covers p (in_take (length noted.places) p noted.places i)).dropping p.switch (record { place = p; on_walk = reached_start (MayGo u k dst) p; drops = drops; at_is = refl });
     steps_within = λ s t i. each_at (λ (e : Edge). (e.from.0 < switch_count u.net) × (e.to.0 < switch_count u.net)) noted.steps (record { from = s; to = t }) all.steps_within i;
@@ -76,6 +81,8 @@ module _ (u : Rollout) (k dst : ℕ) (vlan : Vlan) where
           ((entered.places q).1 (inl next), subst (λ (es : List Edge). IsEdge es p.switch q.switch) (sym entered.steps) edge);
       leaves = λ p port v i leaves. subst (λ (xs : List SwitchId). IsIn p.switch xs) (sym entered.leaving) (so.leaves p port v (was p i) leaves);
       drops = λ p i drops. subst (λ (xs : List SwitchId). IsIn p.switch xs) (sym entered.dropping) (so.drops p (was p i) drops);
+      exits = λ p port v i leaves. subst (λ (xs : List Stop). let stop : Stop = record { switch = p.switch; port = port } in IsIn stop xs) (sym entered.exits) (so.exits p port v (was p i) leaves);
+      exits_used = λ stop i. so.exits_used stop (subst (λ (xs : List Stop). IsIn stop xs) entered.exits i);
       steps_within = λ s t i. so.steps_within s t (subst (λ (es : List Edge). IsEdge es s t) entered.steps i);
     }
 
@@ -113,6 +120,14 @@ module _ (u : Rollout) (k dst : ℕ) (vlan : Vlan) where
         led_to = λ p q i goes. port_in u.net vlan q (goes_on p q (so.at_port p i) goes);
       }
 
+      pub together_exit_room : HaveExitRoom u k dst old
+      together_exit_room = record {
+        ends = used_ports u.net;
+        few = few_used u.net network_is;
+        stood = so.exits_used;
+        led_to = λ p port v i leaves. leaves_by_used u k dst p port v leaves;
+      }
+
       -- one more place
       module _ (new : WalkState) (e : IsExpanded u k dst next old new) where
         here : IsAtPort u.net vlan e.place
@@ -146,6 +161,17 @@ module _ (u : Rollout) (k dst : ℕ) (vlan : Vlan) where
           drops = λ p i drops. elim (in_front p i) [
             | inl j ↦ (e.noted.dropping p.switch).1 (inl (so.drops p j drops))
             | inr same ↦ (e.noted.dropping p.switch).1 (inr (ap (λ (x : Place). x.switch) same, (e.all Discard).1 (subst (λ x. IsPossible u k dst x Discard) same drops)))
+          ];
+          exits = λ p port v i leaves.
+              let stop : Stop = record { switch = p.switch; port = port } in
+              elim (in_front p i) [
+                | inl j ↦ (e.noted.exits stop).1 (inl (so.exits p port v j leaves))
+                | inr same ↦ (e.noted.exits stop).1 (inr (ap (λ (x : Place). x.switch) same, (v, (e.all (Leave port v)).1 (subst (λ x. IsPossible u k dst x (Leave port v)) same leaves))))
+              ];
+          exits_used = λ stop i. elim ((e.noted.exits stop).0 i) [
+            | inl j ↦ so.exits_used stop j
+            | inr g ↦ subst (λ (s : SwitchId). let x : Stop = record { switch = s; port = stop.port } in IsUsed u.net x) (sym g.0)
+                (leaves_by_used u k dst e.place stop.port g.1.0 ((e.all (Leave stop.port g.1.0)).0 g.1.1))
           ];
           steps_within = λ s t i. elim ((e.noted.steps s t).0 i) [
             | inl j ↦ so.steps_within s t j
@@ -182,7 +208,11 @@ module _ (u : Rollout) (k dst : ℕ) (vlan : Vlan) where
             (subst (λ (x : SwitchId). IsEdge noted.steps h.place.switch x) h.to_is (so.goes h.place h.next (in_whole h.place (found start h.place i h.on_walk)) h.goes).1);
         leaving = λ s h. subst (λ (x : SwitchId). IsIn x noted.leaving) h.at_is (so.leaves h.place h.port h.vlan (in_whole h.place (found start h.place i h.on_walk)) h.leaves);
         dropping = λ s h. subst (λ (x : SwitchId). IsIn x noted.dropping) h.at_is (so.drops h.place (in_whole h.place (found start h.place i h.on_walk)) h.drops);
+        exits = λ stop h.
+            subst (λ (s : SwitchId). let x : Stop = record { switch = s; port = stop.port } in IsIn x noted.exits) h.at_is
+            (so.exits h.place stop.port h.vlan (in_whole h.place (found start h.place i h.on_walk)) h.leaves);
       };
+      exits_used = so.exits_used;
       steps_within = each_from_in (λ (e : Edge). (e.from.0 < switch_count u.net) × (e.to.0 < switch_count u.net)) noted.steps (λ e i. so.steps_within e.from e.to i);
     }
 

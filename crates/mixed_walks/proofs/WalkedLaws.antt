@@ -9,7 +9,8 @@ use Rattle.net_base.proofs.ListLaws.{no_longer}
 use Rattle.net_base.proofs.WalkLaws.{reached_start, reached_more}
 use Rattle.net_base.specs.declared.ids.SwitchId.{SwitchId}
 use Rattle.net_base.specs.declared.ids.Place.{Place}
-use Rattle.topology.specs.Networks.{Network, IsNetwork, switch_count}
+use Rattle.net_base.specs.declared.ids.Stop.{Stop}
+use Rattle.topology.specs.Networks.{Network, IsNetwork, switch_count, used_ports}
 use Rattle.flow_rules.specs.Tables.{rules_at}
 use Rattle.flow_rules.specs.declared.rules.Rule.{Rule}
 use Rattle.path_walk.specs.declared.Outcome.{Outcome}
@@ -24,10 +25,10 @@ use Rattle.acyclic_numbering.specs.Heights.{IsEdge}
 use Rattle.acyclic_numbering.specs.declared.Edge.{Edge}
 use Rattle.check_reasons.specs.Loaded.{IsLoaded, AreLoaded}
 use Rattle.mixed_walks.specs.Walks.{WalkState, IsRoundOf, IsWalked}
-use Rattle.mixed_walks.specs.Walking.{IsNoted, IsWalkedTo, HaveRoom}
+use Rattle.mixed_walks.specs.Walking.{IsNoted, IsWalkedTo, HaveRoom, HaveExitRoom}
 use Rattle.mixed_walks.proofs.MarkedLaws.{in_push}
 use Rattle.mixed_walks.proofs.NotedLaws.{in_take}
-use Rattle.mixed_walks.proofs.PlaceLaws.{all_places, few_places, places_within, on_walk_in}
+use Rattle.mixed_walks.proofs.PlaceLaws.{all_places, few_places, places_within, on_walk_in, few_used, leaves_by_used}
 use Rattle.net_base.proofs.ItemLaws.{in_from_get}
 
 -- one more of the front
@@ -59,7 +60,7 @@ all_possible u k dst place net same mixed loaded list exact found is o =
 
 module _ (u : Rollout) (k dst : ℕ) (entry : Place) where
   -- at the entry
-  pub walked_none : (noted : WalkState) → ((p : Place) → IsIn p noted.places ↔ (p ≡ entry)) → IsDistinct noted.places → (noted.steps ≡ []) × (noted.leaving ≡ []) × (noted.dropping ≡ [])
+  pub walked_none : (noted : WalkState) → ((p : Place) → IsIn p noted.places ↔ (p ≡ entry)) → IsDistinct noted.places → (noted.steps ≡ []) × (noted.leaving ≡ []) × (noted.dropping ≡ []) × (noted.exits ≡ [])
       → IsWalkedTo u k dst entry 0 noted
   walked_none noted members once nothing = record {
     begins = (members entry).1 refl;
@@ -69,6 +70,7 @@ module _ (u : Rollout) (k dst : ℕ) (entry : Place) where
     steps = λ s t. (λ i. absurd (subst (λ xs. IsEdge xs s t) nothing.0 i), λ h. absurd h.among);
     leaving = λ s. (λ i. absurd (subst (λ xs. IsIn s xs) nothing.1 i), λ h. absurd h.among);
     dropping = λ s. (λ i. absurd (subst (λ xs. IsIn s xs) nothing.2 i), λ h. absurd h.among);
+    exits = λ stop. (λ i. absurd (subst (λ xs. IsIn stop xs) nothing.3 i), λ h. absurd h.among);
   }
 
   -- one more place
@@ -132,6 +134,19 @@ module _ (u : Rollout) (k dst : ℕ) (entry : Place) where
           | inr e ↦ inr (sym h.at_is ∙ ap (λ (x : Place). x.switch) e, (all Discard).1 (subst (λ x. IsPossible u k dst x Discard) e h.drops))
         ]),
       );
+      exits = λ stop. (
+        λ i. elim ((noted.exits stop).0 i) [
+          | inl j ↦ (let h = (so.exits stop).0 j in record { place = h.place; vlan = h.vlan; among = (in_front h.place).1 (inl h.among); leaves = h.leaves; at_is = h.at_is })
+          | inr g ↦ record { place = place; vlan = g.1.0; among = (in_front place).1 (inr refl); leaves = (all (Leave stop.port g.1.0)).0 g.1.1; at_is = sym g.0 }
+        ],
+        λ h. (noted.exits stop).1 (elim ((in_front h.place).0 h.among) [
+          | inl j ↦ inl ((so.exits stop).1 (record { place = h.place; vlan = h.vlan; among = j; leaves = h.leaves; at_is = h.at_is }))
+          | inr e ↦ inr (
+            sym h.at_is ∙ ap (λ (x : Place). x.switch) e,
+            (h.vlan, (all (Leave stop.port h.vlan)).1 (subst (λ x. IsPossible u k dst x (Leave stop.port h.vlan)) e h.leaves)),
+          )
+        ]),
+      );
     }
 
     pub walked_next : IsWalkedTo u k dst entry (next + 1) new
@@ -170,6 +185,17 @@ module _ (u : Rollout) (k dst : ℕ) (entry : Place) where
       led_to = λ p q i goes. on_walk_in u k dst entry round.keeps_old round.keeps q (reached_more (MayGo u k dst) entry p q (so.on_walk p i) goes);
     }
 
+    -- and so have the ports by which it may leave
+    pub walked_exit_room : HaveExitRoom u k dst noted
+    walked_exit_room = record {
+      ends = used_ports u.net;
+      few = few_used u.net network_is;
+      stood = λ stop i.
+          let h = (so.exits stop).0 i in
+          subst (λ (s : SwitchId). let y : Stop = record { switch = s; port = stop.port } in IsIn y (used_ports u.net)) h.at_is (leaves_by_used u k dst h.place stop.port h.vlan h.leaves);
+      led_to = λ p port vlan i leaves. leaves_by_used u k dst p port vlan leaves;
+    }
+
     -- where no place is left, all is walked
     module _ (none_left : length noted.places ≤ next) where
       whole : take next noted.places ≡ noted.places
@@ -205,6 +231,10 @@ module _ (u : Rollout) (k dst : ℕ) (entry : Place) where
         dropping = λ s. (
           λ i. (let h = (so.dropping s).0 i in record { place = h.place; on_walk = on_walk h.place h.among; drops = h.drops; at_is = h.at_is }),
           λ h. (so.dropping s).1 (record { place = h.place; among = all_found h.place h.on_walk; drops = h.drops; at_is = h.at_is }),
+        );
+        exits = λ stop. (
+          λ i. (let h = (so.exits stop).0 i in record { place = h.place; vlan = h.vlan; on_walk = on_walk h.place h.among; leaves = h.leaves; at_is = h.at_is }),
+          λ h. (so.exits stop).1 (record { place = h.place; vlan = h.vlan; among = all_found h.place h.on_walk; leaves = h.leaves; at_is = h.at_is }),
         );
         steps_within = each_from_in (λ (e : Edge). (e.from.0 < switch_count u.net) × (e.to.0 < switch_count u.net)) noted.steps (λ e i.
             let h = (so.steps e.from e.to).0 i in

@@ -5,6 +5,7 @@ use Rattle.net_base.specs.Members.{IsIn, IsDistinct}
 use Rattle.net_base.specs.Switches.{has, most_switches}
 use Rattle.net_base.specs.declared.ids.SwitchId.{SwitchId}
 use Rattle.net_base.specs.declared.ids.Place.{Place}
+use Rattle.net_base.specs.declared.ids.Vlan.TheVariants.{Untagged}
 use Rattle.acyclic_numbering.specs.declared.Edge.{Edge}
 use Rattle.mixed_walks.specs.Walks.{switches_of}
 
@@ -43,3 +44,7 @@ pub record IsPlaceList (bound : ℕ) (places : List Place) (capacity : ℕ) (slo
   pub count : length slots ≡ bound
   pub within : (n : ℕ) → slice_index_or slots n 0 ≤ length places
   pub marked : (n : ℕ) → IsIn n (map slot_number places) ↔ (0 < slice_index_or slots n 0)
+
+-- the place has no tag
+abbrev pub IsUntagged : Place → Type 0
+IsUntagged p = p.vlan ≡ Untagged

@@ -96,6 +96,13 @@ impl ReachedPlaces {
         self.places[i]
     }
 
+    /// The places, in the order in which they were put.
+    pub(crate) fn list(&self) -> &[Place]
+        ensures { result.now ≡ self.now }
+    {
+        &self.places
+    }
+
     /// The switches of the places, each once.
     pub(crate) fn switches(&self) -> &[SwitchId]
         ensures seen { (s : SwitchId) → IsIn s result.now ↔ IsIn s (switches_of self.now) }

@@ -1,5 +1,5 @@
 //! The mixed walks of a class in a round.
-ghost use Rattle.std.specs.Prelude.{◌≡◌, ◌↔◌, ℕ, ◌+◌, ◌<◌, [], length, All, IfOk, IsTrue};
+ghost use Rattle.std.specs.Prelude.{◌≡◌, ◌↔◌, ℕ, ◌+◌, ◌<◌, [], length, map, All, IfOk, IsTrue};
 ghost use Rattle.net_base.specs.Members.{IsIn};
 ghost use Rattle.net_base.specs.Places.{stop_of};
 ghost use Rattle.net_base.specs.declared.ids.SwitchId.{SwitchId};
@@ -8,7 +8,7 @@ ghost use Rattle.net_base.specs.declared.ids.Place.{Place};
 ghost use Rattle.topology.specs.Networks.{switch_count, IsUsed};
 ghost use Rattle.update_model.specs.Mixtures.{Rollout};
 ghost use Rattle.mixed_walks.specs.Walks.{switches_of, IsRoundOf, IsWalked, AreTogether};
-ghost use Rattle.mixed_walks.specs.Walking.{IsWalkedTo, IsExpanded, HaveRoom, IsEntered, IsTogetherTo};
+ghost use Rattle.mixed_walks.specs.Walking.{IsWalkedTo, IsExpanded, HaveRoom, HaveExitRoom, IsEntered, IsTogetherTo};
 ghost use Rattle.net_base.specs.Switches.{most_switches};
 
 use crate::noted::WalkNotes;
@@ -43,7 +43,8 @@ impl WalkRoom {
     /// Room for the walks, with nothing noted.
     pub fn make(alloc: Global) -> Result<WalkRoom, Memory>
         ensures { IfOk result
-            (λ room. room ≡ record { places = []; steps = []; leaving = []; dropping = [] }) }
+            (λ room. room
+            ≡ record { places = []; steps = []; leaving = []; dropping = []; exits = [] }) }
     {
         Ok(WalkRoom {
             outcomes: Outcomes::with_room(alloc, 8193)?,
@@ -88,6 +89,13 @@ impl WalkRoom {
         self.noted.dropping()
     }
 
+    /// The ports by which a packet may leave on them, each once, as places without a tag.
+    pub fn exits(&self) -> &[Place]
+        ensures { map stop_of result.now ≡ self.now.exits }
+    {
+        self.noted.exits()
+    }
+
     /// How many places were found.
     fn count(&self) -> usize
         ensures { result ≡ length self.now.places }
@@ -107,7 +115,7 @@ impl WalkRoom {
     /// Notes the possible outcomes of the next place.
     fn expand(&mut self, net: &Net, mixes: &[Mixed], address: u32, next: usize)
         requires round { (u : Rollout) × (k : ℕ) × IsRoundOf net.now mixes.now u k
-            × HaveRoom u k address self.old.places }
+            × HaveRoom u k address self.old.places × HaveExitRoom u k address self.old }
         requires more { next < length self.old.places }
         ensures { (u : Rollout) (k : ℕ) → IsRoundOf net.now mixes.now u k
             → IsExpanded u k address next self.old self.new }
@@ -120,8 +128,8 @@ impl WalkRoom {
     }
 
     /// Walks all mixed walks of a class in the round that the switches of a network are prepared for, and notes their
-    /// steps and where a packet may leave or be discarded. The answer is that of each update and round for which they
-    /// are prepared. Takes time by the places that they come to and the outcomes there.
+    /// steps, where a packet may leave or be discarded, and the ports by which it may leave. The answer is that of each
+    /// update and round for which they are prepared. Takes time by the places that they come to and the outcomes there.
     ///
     /// No old rule of the update and no change up to the round may set or strip a tag: packets keep their entry's VLAN.
     pub fn walk(&mut self, net: &Net, mixes: &[Mixed], class: Class)
@@ -142,7 +150,7 @@ impl WalkRoom {
     /// Forgets what was noted, before walks that are to be walked together.
     pub fn clear(&mut self)
         ensures nothing { self.new
-            ≡ record { places = []; steps = []; leaving = []; dropping = [] } }
+            ≡ record { places = []; steps = []; leaving = []; dropping = []; exits = [] } }
         ensures together { (u : Rollout) (k dst : ℕ) (vlan : Vlan)
             → AreTogether u k dst vlan self.new }
     {
@@ -178,8 +186,8 @@ impl WalkRoom {
     /// Walks all mixed walks of a class, as `walk`, and notes them with those that stand there: walks of the same address and
     /// VLAN in the same round. Takes time by the places that only these walks come to and the outcomes there.
     ///
-    /// So what is noted holds the walks of each class that was walked so since `clear`: each place, step, leaving and discard.
-    /// It need not say which of them has it.
+    /// So what is noted holds the walks of each class that was walked so since `clear`: each place, step, leaving, discard and
+    /// exit. It need not say which of them has it.
     pub fn walk_more(&mut self, net: &Net, mixes: &[Mixed], class: Class)
         requires round { (u : Rollout) × (k : ℕ) × IsRoundOf net.now mixes.now u k
             × AreTogether u k class.first class.entry.vlan self.old }

@@ -10,4 +10,5 @@ pub mod ItemTurns
 pub mod TextLines
 pub mod Prefixes
 pub mod SetLaws
+pub mod GroupLaws
 pub mod NumberLaws

@@ -1,5 +1,5 @@
 -- Numbers that follow each other: which they are, each once, and one more.
-use Rattle.std.proofs.Common.{◌≡◌, ◌⊎◌, ℕ, zero, suc, ◌+◌, ◌<◌, ◌≤◌, List, [], ◌∷◌, ◌++◌, length, refl, sym, ap, inl, inr, arith}
+use Rattle.std.proofs.Common.{◌≡◌, ◌⊎◌, ℕ, zero, suc, ◌+◌, ◌<◌, ◌≤◌, [], ◌∷◌, ◌++◌, length, refl, sym, ap, inl, inr, arith}
 use Rattle.net_base.specs.Members.{IsIn, IsDistinct}
 use Rattle.net_base.specs.Numbers.{numbers_from}
 

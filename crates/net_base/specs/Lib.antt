@@ -7,4 +7,5 @@ pub mod Lines
 pub mod Reading
 pub mod Fields
 pub mod Switches
+pub mod Groups
 pub mod Numbers

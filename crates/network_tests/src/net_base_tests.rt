@@ -1,7 +1,7 @@
 //! What no clause says: the small texts by outside values, and that calls succeed.
 use net_base::{
-    BadPrefix, Field, Vlan, addr_text, prefix_text, read_address, read_decimal, read_prefix,
-    vlan_text,
+    BadPrefix, Field, SwitchGroup, SwitchId, Vlan, addr_text, prefix_text, read_address,
+    read_decimal, read_prefix, vlan_text,
 };
 use std::alloc::Global;
 use std::process::Abort;
@@ -63,4 +63,24 @@ fn names_members_as_files_spell_them(rt: HostRuntime) {
     assert_eq!(rt; Field::InPort.name(), "in_port");
     assert_eq!(rt; Field::Do.name(), "do");
     assert_eq!(rt; Field::Uses.name(), "uses");
+}
+
+/// The group has these switches, and no switch 8.
+fn is_group(rt: &impl Abort, group: &SwitchGroup, want: &[SwitchId]) {
+    assert!(rt; group.list() == want && !group.has(SwitchId(8)));
+    for switch in want {
+        assert!(rt; group.has(*switch) && group.least() <= *switch);
+    }
+}
+
+#[test]
+fn a_group_is_ascending(rt: HostRuntime) {
+    let alloc = rt.alloc();
+    let named = [SwitchId(5), SwitchId(127), SwitchId(3), SwitchId(5)];
+    let group = SwitchGroup::of_switches(alloc, &named).expect(&rt, "memory");
+    let want = [SwitchId(3), SwitchId(5), SwitchId(127)];
+    is_group(&rt, &group, &want);
+    is_group(&rt, &group.copy(alloc).expect(&rt, "memory"), &want);
+    let one = SwitchGroup::of_switch(alloc, SwitchId(7)).expect(&rt, "memory");
+    is_group(&rt, &one, &[SwitchId(7)]);
 }

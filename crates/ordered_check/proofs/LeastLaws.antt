@@ -1,15 +1,20 @@
 -- The least switch of those of which something holds.
-use Rattle.std.proofs.Common.{◌≡◌, ◌⊎◌, ◌↔◌, ℕ, ◌+◌, ◌<◌, ◌≤◌, Bool, true, false, IsTrue, not, List, [], ◌∷◌, ◌++◌, length, get_or, take, Option, refl, sym, ap, ◌∙◌, subst, inl, inr, arith}
+use Rattle.std.proofs.Common.{◌≡◌, ◌⊎◌, ◌↔◌, ℕ, ◌+◌, ◌<◌, ◌≤◌, Bool, true, false, IsTrue, not, List, [], ◌∷◌, ◌++◌, length, get_or, map, take, Option, refl, sym, ap, ◌∙◌, subst, inl, inr, arith}
 use Rattle.std.specs.Bool.{then_some}
 use Rattle.std.proofs.lemmas.Bool.{false≢true}
 use Rattle.std.proofs.lemmas.List.{take_more, take_all}
 use Rattle.net_base.specs.Members.{IsIn}
-use Rattle.net_base.proofs.MemberLaws.{in_append_left, in_append_right, in_append_cases}
+use Rattle.net_base.specs.Places.{stop_of}
+use Rattle.net_base.proofs.MemberLaws.{in_append_left, in_append_right, in_append_cases, in_map, in_from_map}
 use Rattle.net_base.specs.declared.ids.SwitchId.{SwitchId}
+use Rattle.net_base.specs.declared.ids.Place.{Place}
+use Rattle.net_base.specs.declared.ids.Stop.{Stop}
+use Rattle.demands.specs.Duties.{lets}
 use Rattle.acyclic_numbering.specs.Heights.{IsEdge}
 use Rattle.acyclic_numbering.specs.declared.Edge.{Edge}
 use Rattle.check_reasons.specs.Least.{IsLeastOf, lesser}
 use Rattle.check_reasons.proofs.LeastLaws.{least_iff, least_two}
+use Rattle.ordered_check.specs.Judged.{LeavesElsewhere}
 
 -- a switch, where this holds of it
 pub least_one : (P : SwitchId → Type 0) (s : SwitchId) (b : Bool) → (IsTrue b ↔ P s) → IsLeastOf (λ x. (x ≡ s) × P x) (then_some b s)
@@ -67,3 +72,14 @@ pub switch_at : (holds P : SwitchId → Type 0) (switches : List SwitchId) (i : 
     → ((s : SwitchId) → P s → holds s × IsIn s switches) → IsLeastOf (AtSome holds (λ s. s) (take i switches)) least → IsLeastOf P least
 switch_at holds P switches i least le to from h =
     least_all holds (λ (s : SwitchId). s) P switches i least le (λ s w. subst P w.3 (to w.0 w.2 w.1)) (λ s p. (s, (from s p).1, (from s p).0, refl)) h
+
+-- all ports by which packets leave, by their switches
+pub exit_at : (exits : List (List Stop)) (ports : List Place) (i : ℕ) (least : Option SwitchId) → length ports ≤ i
+    → IsLeastOf (AtSome (λ (p : Place). lets exits (stop_of p) ≡ false) (λ p. p.switch) (take i ports)) least → IsLeastOf (LeavesElsewhere exits (map stop_of ports)) least
+exit_at exits ports i least le h =
+    least_all (λ (p : Place). lets exits (stop_of p) ≡ false) (λ (p : Place). p.switch) (LeavesElsewhere exits (map stop_of ports)) ports i least le
+    (λ s w. record { stop = stop_of w.0; among = in_map stop_of w.0 ports w.1; at_is = w.3; elsewhere = w.2 })
+    (λ s out.
+    let (p, j, e) = in_from_map stop_of out.stop ports out.among in
+    (p, j, subst (λ (x : Stop). lets exits x ≡ false) e out.elsewhere, ap (λ (x : Stop). x.switch) (sym e) ∙ out.at_is))
+    h

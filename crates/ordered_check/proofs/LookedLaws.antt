@@ -24,7 +24,7 @@ use Rattle.check_reasons.specs.Touched.{touches}
 use Rattle.class_watch.specs.Classes.{AreClasses}
 use Rattle.class_watch.specs.Judges.{ArePassedOver}
 use Rattle.ordered_check.specs.Looked.{MayBePassed, AreLookedAt}
-use Rattle.ordered_check.specs.Standing.{HasEarlierPick}
+use Rattle.ordered_check.specs.Standing.{HasEarlierPick, IsSettled}
 
 -- ---- the atoms that are looked at
 
@@ -90,12 +90,17 @@ force_later picks k n pick force none = record {
       ];
 }
 
--- a class that may be passed over has a pick that was in force in the round before
-earlier_pick : (t : Task) (e : OrderedEvidence) (k n : ℕ) (class : Class) → RoundsPass t (Ordered e) k → IsClass (classes_for t) n class → MayBePassed t e k n → HasEarlierPick e k n
-earlier_pick t e zero n class before is over = absurd (let h = over.later in omega arith)
-earlier_pick t e (suc k) n class before is over =
+-- a class no pick of which begins with a later round has a pick that was in force in the round before
+earlier_pick : (t : Task) (e : OrderedEvidence) (k n : ℕ) (class : Class) → RoundsPass t (Ordered e) k → IsClass (classes_for t) n class → 0 < k
+    → ((pick : OrderedPick) → IsIn pick e.picks → pick.class ≡ n → ¬ (pick.round ≡ suc k)) → HasEarlierPick e k n
+earlier_pick t e zero n class before is later none = absurd (omega arith)
+earlier_pick t e (suc k) n class before is later none =
     let cert = (before k (omega arith)).1 n class is in
-    record { pick = cert.pick; in_force = force_later e.picks (suc k) n cert.pick cert.in_force over.no_pick; begun = cert.in_force.begun }
+    record { pick = cert.pick; in_force = force_later e.picks (suc k) n cert.pick cert.in_force none; begun = cert.in_force.begun }
+
+-- so each class where no pick begins at all
+pub settled_pick : (t : Task) (e : OrderedEvidence) (k n : ℕ) (class : Class) → RoundsPass t (Ordered e) k → IsClass (classes_for t) n class → IsSettled e k → HasEarlierPick e k n
+settled_pick t e k n class before is settled = earlier_pick t e k n class before is settled.later (λ pick i _. settled.no_pick pick i)
 
 -- the classes whose atom isn't looked at may be passed over
 pub passed_over : (t : Task) (e : OrderedEvidence) (k : ℕ) (looked : List Bool) (classes : List Class) → AreClasses (classes_for t) classes → (0 < class_count (classes_for t) → length looked ≡ atom_count (classes_for t))
@@ -104,4 +109,4 @@ passed_over t e k looked classes are count before all n class there off =
     let is = are.each n class there in
     let within : n < class_count (classes_for t) = (let less = slice_get_within classes n class there in let long = are.count in omega arith) in
     let over = all n within (subst (λ (m : ℕ). get_or looked (n % m) false ≡ false) (count (omega arith)) off) in
-    (earlier_pick t e k n class before is over, over.untouched class is)
+    (earlier_pick t e k n class before is over.later over.no_pick, over.untouched class is)

@@ -10,8 +10,8 @@ use Rattle.certificates.specs.Certified.{classes_for}
 use Rattle.certificates.specs.Valid.{IsChain, IsPickBefore}
 use Rattle.certificates.specs.declared.OrderedEvidence.{OrderedEvidence}
 use Rattle.certificates.specs.declared.Evidence.TheVariants.{Ordered}
-use Rattle.check_reasons.specs.Ranks.{rank_of, number_of, class_of, least_class_number, classes_start}
-use Rattle.check_reasons.specs.Reasons.{IsOrderedReason, class_duties, rewrites, no_numbering, not_lower, may_drop, no_before, bypass}
+use Rattle.check_reasons.specs.Ranks.{rank_of, precedence_of, class_of, least_class_number, classes_start}
+use Rattle.check_reasons.specs.Reasons.{IsOrderedReason, class_duties, rewrites, no_numbering, not_lower, may_drop, may_leave, no_before, bypass}
 use Rattle.check_reasons.specs.Passed.{IsFirstFrom, ClassesPass}
 use Rattle.check_reasons.proofs.RankLaws.{ordered_in_rounds, by_number, first_of_classes}
 use Rattle.ordered_check.specs.Picks.{IsKeptPick}
@@ -24,13 +24,14 @@ module _ (t : Task) (e : OrderedEvidence) where
   -- ---- from all classes to all reasons
 
   -- a reason with such a number is of a class
-  classed : (i : ℕ) (r : Reason) → IsOrderedReason t e i r → least_class_number ≤ number_of r → (class : Class) × IsClass (classes_for t) (class_of r) class
+  classed : (i : ℕ) (r : Reason) → IsOrderedReason t e i r → least_class_number ≤ precedence_of r → (class : Class) × IsClass (classes_for t) (class_of r) class
   classed i r (rewrites k s has) le = absurd (omega arith)
   classed i r (no_numbering k n class judged none) le = (class, judged.is)
   classed i r (not_lower k n class numbers sets s judged force bad) le = (class, judged.is)
   classed i r (may_drop k n class s judged arrive drops) le = (class, judged.is)
+  classed i r (may_leave k n class s judged leaves) le = (class, judged.is)
   classed i r (no_before k n class numbers sets judged force other) le = (class, judged.is)
-  classed i r (bypass k n j class numbers sets p s judged force at bypassed) le = (class, judged.is)
+  classed i r (bypass k n j class numbers sets p s judged force at bypassed w least) le = (class, judged.is)
 
   -- the first reason of all classes of a round is the first one from the classes of the round on
   first_from_classes : (k : ℕ) (reason : Reason) → IsFirstAmong t e k (λ n. n < class_count (classes_for t)) reason → IsFirstFrom t (Ordered e) (classes_start k) reason
@@ -114,7 +115,7 @@ module _ (t : Task) (e : OrderedEvidence) where
 
     module _ (found reason : Reason) (f : IsFirstAmong t e k (λ m. m < n) found) (g : IsFirstOfClass t e k n reason) where
       -- a reason of the next class with a lower number comes first
-      lower_first : number_of reason < number_of found → IsFirstAmong t e k (λ m. m < n + 1) reason
+      lower_first : precedence_of reason < precedence_of found → IsFirstAmong t e k (λ m. m < n + 1) reason
       lower_first lower = record {
         position = g.position;
         holds = g.holds;
@@ -132,7 +133,7 @@ module _ (t : Task) (e : OrderedEvidence) where
       }
 
       -- otherwise the one so far stays
-      earlier_first : number_of found ≤ number_of reason → IsFirstAmong t e k (λ m. m < n + 1) found
+      earlier_first : precedence_of found ≤ precedence_of reason → IsFirstAmong t e k (λ m. m < n + 1) found
       earlier_first high = record {
         position = f.position;
         holds = f.holds;
@@ -158,7 +159,7 @@ module _ (t : Task) (e : OrderedEvidence) where
     found_more None (Some reason) so_far cert first = first_comes reason so_far first
     found_more (Some found) None so_far cert first = first_stays found so_far cert
     found_more (Some found) (Some reason) so_far cert first =
-        elim (cases_lt (number_of reason) (number_of found)) [
-          | inl low ↦ rw (lt-ltb (number_of reason) (number_of found) low) (lower_first found reason so_far first low)
-          | inr high ↦ rw (le-ltb (number_of reason) (number_of found) high) (earlier_first found reason so_far first high)
+        elim (cases_lt (precedence_of reason) (precedence_of found)) [
+          | inl low ↦ rw (lt-ltb (precedence_of reason) (precedence_of found) low) (lower_first found reason so_far first low)
+          | inr high ↦ rw (le-ltb (precedence_of reason) (precedence_of found) high) (earlier_first found reason so_far first high)
         ]

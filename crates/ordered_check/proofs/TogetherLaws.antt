@@ -6,6 +6,7 @@ use Rattle.std.proofs.lemmas.Bool.{cases_lt}
 use Rattle.std.proofs.lemmas.Option.{same_Some}
 use Rattle.net_base.specs.Members.{IsIn}
 use Rattle.net_base.specs.declared.ids.SwitchId.{SwitchId}
+use Rattle.net_base.specs.declared.ids.Stop.{Stop}
 use Rattle.net_base.proofs.MemberLaws.{each_at}
 use Rattle.acyclic_numbering.specs.Heights.{number_of as number_at}
 use Rattle.waypoint_evidence.specs.Befores.{IsGuard}
@@ -25,6 +26,7 @@ use Rattle.certificates.specs.declared.Shared.{Shared}
 use Rattle.check_reasons.specs.Reasons.{class_duties}
 use Rattle.mixed_walks.specs.Walks.{WalkState, Covers, AreTogether}
 use Rattle.ordered_check.specs.Together.{IsOfUse, AreSafe}
+use Rattle.ordered_check.specs.Judged.{LeavesElsewhere}
 use Rattle.class_watch.specs.declared.judge.Group.{Group}
 
 -- the pick in force names a use
@@ -41,7 +43,7 @@ some_member [] some = absurd (omega arith)
 some_member (x ∷ xs) some = (x, inl refl)
 
 -- without before sets there are no positions
-positions_none : (chains : List (List SwitchId)) → positions chains [] ≡ []
+positions_none : (chains : List (List (List SwitchId))) → positions chains [] ≡ []
 positions_none [] = refl
 positions_none ([] ∷ chains) = positions_none chains
 positions_none ((w ∷ ws) ∷ chains) = positions_none chains
@@ -52,9 +54,9 @@ module _ (t : Task) (e : OrderedEvidence) (k : ℕ) (group : Group) (m : Numbere
   covers : Covers (rollout t) k m.class.first m.class.entry noted
   covers = subst (λ (a : ℕ). Covers (rollout t) k a m.class.entry noted) (sym address) (together.covers m.class.entry entry)
 
-  -- it has its certificate where all that was walked is safe
-  pub member_safe : AreSafe e group noted → OrderedCertificate (rollout t) e k m.number m.class.first m.class.entry (class_duties t m.class)
-  member_safe safe =
+  -- it has its certificate where all that was walked is safe, and each port by which a packet may leave is one of its exits
+  pub member_safe : AreSafe e group noted → ((s : SwitchId) → ¬ LeavesElsewhere (class_duties t m.class).exits noted.exits s) → OrderedCertificate (rollout t) e k m.number m.class.first m.class.entry (class_duties t m.class)
+  member_safe safe inside =
       let g = member in
       let same : safe.use_ ≡ g.use_ = same_Some safe.use_ g.use_ (sym safe.use_is ∙ ap (slice_get e.uses) (sym g.shared) ∙ g.use_is) in
       record {
@@ -76,10 +78,18 @@ module _ (t : Task) (e : OrderedEvidence) (k : ℕ) (group : Group) (m : Numbere
               ];
           arrives = λ arrive drop.
               safe.arrives (g.arrive arrive) drop.place.switch (covers.dropping drop.place.switch (record { place = drop.place; on_walk = drop.on_walk; drops = drop.drops; at_is = refl }));
+          exits = λ s may.
+              let stop : Stop = record { switch = may.place.switch; port = may.port } in
+              inside s (record {
+                stop = stop;
+                among = covers.exits stop (record { place = may.place; vlan = may.vlan; on_walk = may.on_walk; leaves = may.leaves; at_is = refl });
+                at_is = may.at_is;
+                elsewhere = may.elsewhere;
+              });
           guarded = record {
             count = g.no_waypoints;
             guards =
-                subst (AllByRecursion (λ (p : Position). IsGuard m.class.entry.switch (IsMixedStep (rollout t) k m.class.first m.class.entry) (MayLeave (rollout t) k m.class.first m.class.entry) p.waypoint p.earlier p.set))
+                subst (AllByRecursion (λ (p : Position). IsGuard m.class.entry.switch (IsMixedStep (rollout t) k m.class.first m.class.entry) (MayLeave (rollout t) k m.class.first m.class.entry) p.item p.earlier p.set))
                 (sym (positions_none (class_duties t m.class).chains)) tt;
           };
         };

@@ -30,27 +30,27 @@ before_next : (set : List ℕ) (sets : List (List ℕ)) (j : ℕ) → before (So
 before_next set sets zero = refl
 before_next set sets (suc j) = refl
 
-position_in : (earlier : Option (List ℕ)) (chain : List SwitchId) (sets : List (List ℕ)) (j : ℕ) (w : SwitchId) (set : List ℕ) → slice_get chain j ≡ Some w → slice_get sets j ≡ Some set
-    → slice_get (chain_positions earlier chain sets) j ≡ Some (record { waypoint = w; earlier = before earlier sets j; set = set })
+position_in : (earlier : Option (List ℕ)) (chain : List (List SwitchId)) (sets : List (List ℕ)) (j : ℕ) (w : List SwitchId) (set : List ℕ) → slice_get chain j ≡ Some w → slice_get sets j ≡ Some set
+    → slice_get (chain_positions earlier chain sets) j ≡ Some (record { item = w; earlier = before earlier sets j; set = set })
 position_in earlier [] sets j w set e f = absurd (none-some w e)
 position_in earlier (v ∷ chain) [] j w set e f = absurd (none-some set f)
 position_in earlier (v ∷ chain) (x ∷ sets) zero w set e f =
-    ap (λ (s : SwitchId). let p : Position = record { waypoint = s; earlier = earlier; set = x } in Some p) (same_Some v w e)
-    ∙ ap (λ (y : List ℕ). let p : Position = record { waypoint = w; earlier = earlier; set = y } in Some p) (same_Some x set f)
+    ap (λ (s : List SwitchId). let p : Position = record { item = s; earlier = earlier; set = x } in Some p) (same_Some v w e)
+    ∙ ap (λ (y : List ℕ). let p : Position = record { item = w; earlier = earlier; set = y } in Some p) (same_Some x set f)
 position_in earlier (v ∷ chain) (x ∷ sets) (suc j) w set e f =
-    position_in (Some x) chain sets j w set e f ∙ ap (λ (o : Option (List ℕ)). let p : Position = record { waypoint = w; earlier = o; set = set } in Some p) (before_next x sets j)
+    position_in (Some x) chain sets j w set e f ∙ ap (λ (o : Option (List ℕ)). let p : Position = record { item = w; earlier = o; set = set } in Some p) (before_next x sets j)
 
 before_first : (sets : List (List ℕ)) (j : ℕ) → before None sets j ≡ set_before sets j
 before_first sets zero = refl
 before_first sets (suc j) = refl
 
 -- the position at a place of a chain
-pub position_at : (chain : List SwitchId) (sets : List (List ℕ)) (j : ℕ) (w : SwitchId) (set : List ℕ) → slice_get chain j ≡ Some w → slice_get sets j ≡ Some set
-    → slice_get (chain_positions None chain sets) j ≡ Some (record { waypoint = w; earlier = set_before sets j; set = set })
+pub position_at : (chain : List (List SwitchId)) (sets : List (List ℕ)) (j : ℕ) (w : List SwitchId) (set : List ℕ) → slice_get chain j ≡ Some w → slice_get sets j ≡ Some set
+    → slice_get (chain_positions None chain sets) j ≡ Some (record { item = w; earlier = set_before sets j; set = set })
 position_at chain sets j w set e f =
-    position_in None chain sets j w set e f ∙ ap (λ (o : Option (List ℕ)). let p : Position = record { waypoint = w; earlier = o; set = set } in Some p) (before_first sets j)
+    position_in None chain sets j w set e f ∙ ap (λ (o : Option (List ℕ)). let p : Position = record { item = w; earlier = o; set = set } in Some p) (before_first sets j)
 
-length_chain : (earlier : Option (List ℕ)) (chain : List SwitchId) (sets : List (List ℕ)) → length chain ≤ length sets → length (chain_positions earlier chain sets) ≡ length chain
+length_chain : (earlier : Option (List ℕ)) (chain : List (List SwitchId)) (sets : List (List ℕ)) → length chain ≤ length sets → length (chain_positions earlier chain sets) ≡ length chain
 length_chain earlier [] sets le = refl
 length_chain earlier (w ∷ chain) [] le = absurd (omega arith)
 length_chain earlier (w ∷ chain) (x ∷ sets) le = ap suc (length_chain (Some x) chain sets (omega arith))
@@ -58,19 +58,19 @@ length_chain earlier (w ∷ chain) (x ∷ sets) le = ap suc (length_chain (Some 
 -- ---- one chain after another
 
 -- the positions with one more chain
-positions_push : (chains : List (List SwitchId)) (chain : List SwitchId) (sets : List (List ℕ)) → positions (chains ++ chain ∷ []) sets ≡ positions chains sets ++ chain_positions None chain (drop (position_count chains) sets)
+positions_push : (chains : List (List (List SwitchId))) (chain : List (List SwitchId)) (sets : List (List ℕ)) → positions (chains ++ chain ∷ []) sets ≡ positions chains sets ++ chain_positions None chain (drop (position_count chains) sets)
 positions_push [] chain sets = append-nil (chain_positions None chain sets)
 positions_push (c ∷ chains) chain sets =
     let first = chain_positions None c sets in
     let rest = drop (length c) sets in
     let far : drop (position_count chains) rest ≡ drop (position_count (c ∷ chains)) sets =
-    drop-drop (position_count chains) (length c) sets ∙ ap (λ n. drop n sets) (sym (length-append c (flat_map (λ (x : List SwitchId). x) chains))) in
+    drop-drop (position_count chains) (length c) sets ∙ ap (λ n. drop n sets) (sym (length-append c (flat_map (λ (x : List (List SwitchId)). x) chains))) in
     ap (λ (ps : List Position). first ++ ps) (positions_push chains chain rest)
     ∙ sym (append_assoc first (positions chains rest) (chain_positions None chain (drop (position_count chains) rest)))
     ∙ ap (λ (xs : List (List ℕ)). (first ++ positions chains rest) ++ chain_positions None chain xs) far
 
 -- the positions of all chains begin with those of the first ones
-positions_front : (chains : List (List SwitchId)) (i : ℕ) (sets : List (List ℕ)) → (back : List Position) × (positions chains sets ≡ positions (take i chains) sets ++ back)
+positions_front : (chains : List (List (List SwitchId))) (i : ℕ) (sets : List (List ℕ)) → (back : List Position) × (positions chains sets ≡ positions (take i chains) sets ++ back)
 positions_front chains zero sets = (positions chains sets, refl)
 positions_front [] (suc i) sets = ([], refl)
 positions_front (c ∷ chains) (suc i) sets =
@@ -79,10 +79,10 @@ positions_front (c ∷ chains) (suc i) sets =
       ap (λ (ps : List Position). chain_positions None c sets ++ ps) is ∙ sym (append_assoc (chain_positions None c sets) (positions (take i chains) (drop (length c) sets)) back),
     )
 
-pub length_positions : (chains : List (List SwitchId)) (sets : List (List ℕ)) → position_count chains ≤ length sets → length (positions chains sets) ≡ position_count chains
+pub length_positions : (chains : List (List (List SwitchId))) (sets : List (List ℕ)) → position_count chains ≤ length sets → length (positions chains sets) ≡ position_count chains
 length_positions [] sets le = refl
 length_positions (c ∷ chains) sets le =
-    let b = length-append c (flat_map (λ (x : List SwitchId). x) chains) in
+    let b = length-append c (flat_map (λ (x : List (List SwitchId)). x) chains) in
     let rest = length-drop (length c) sets in
     length-append (chain_positions None c sets) (positions chains (drop (length c) sets))
     ∙ (let one = length_chain None c sets (omega arith) in
@@ -139,9 +139,9 @@ module _ (around : Position → SwitchId → Type 0) where
     earlier = λ i p s lt is. guarded_append xs ys m h.place len first h.earlier i p s (omega arith) is;
   }
 
-  module _ (chains : List (List SwitchId)) (sets : List (List ℕ)) (count : length sets ≡ position_count chains) (i : ℕ) (chain : List SwitchId) (is : slice_get chains i ≡ Some chain) where
+  module _ (chains : List (List (List SwitchId))) (sets : List (List ℕ)) (count : length sets ≡ position_count chains) (i : ℕ) (chain : List (List SwitchId)) (is : slice_get chains i ≡ Some chain) where
     here_taken : positions (take (i + 1) chains) sets ≡ positions (take i chains) sets ++ chain_positions None chain (drop (position_count (take i chains)) sets)
-    here_taken = ap (λ (cs : List (List SwitchId)). positions cs sets) (take_next chains i chain is) ∙ positions_push (take i chains) chain sets
+    here_taken = ap (λ (cs : List (List (List SwitchId))). positions cs sets) (take_next chains i chain is) ∙ positions_push (take i chains) chain sets
 
     taken_length : length (positions (take i chains) sets) ≡ position_count (take i chains)
     taken_length = length_positions (take i chains) sets (let h = count_fits chains i chain is in omega arith)

@@ -6,14 +6,14 @@ use Rattle.certificates.specs.Updates.{Task}
 use Rattle.certificates.specs.Certified.{classes_for, HasCertificate}
 use Rattle.certificates.specs.declared.Evidence.TheVariants.{Ordered}
 use Rattle.certificates.specs.declared.OrderedEvidence.{OrderedEvidence}
-use Rattle.check_reasons.specs.Ranks.{IsBefore, rank_of, number_of, round_of, class_of, least_class_number}
+use Rattle.check_reasons.specs.Ranks.{IsBefore, rank_of, precedence_of, round_of, class_of, least_class_number}
 use Rattle.check_reasons.specs.Reasons.{IsOrderedReason}
 use Rattle.check_reasons.specs.declared.reason.Reason.{Reason}
 
 -- the reason is one of those classes of round k of whose numbers this holds
 pub record IsOfClasses (k : ℕ) (among : ℕ → Type 0) (reason : Reason) : Type 0 where
   pub round : round_of reason ≡ suc k
-  pub number : least_class_number ≤ number_of reason
+  pub number : least_class_number ≤ precedence_of reason
   pub class : among (class_of reason)
 
 -- the first reason of those classes in round k of whose numbers this holds
@@ -31,7 +31,7 @@ IsFirstOfClass t e k n reason = IsFirstAmong t e k (λ m. m ≡ n) reason
 abbrev pub first_of : Option Reason → Option Reason → Option Reason
 first_of None later = later
 first_of (Some reason) None = Some reason
-first_of (Some reason) (Some later) = if nat_lt (number_of later) (number_of reason) then Some later else Some reason
+first_of (Some reason) (Some later) = if nat_lt (precedence_of later) (precedence_of reason) then Some later else Some reason
 
 -- what was found of the classes below this number in round k: each has its certificate, or the first reason
 abbrev pub IsFoundBelow : Task → OrderedEvidence → ℕ → ℕ → Option Reason → Type 0

@@ -15,6 +15,7 @@ ghost use Rattle.ordered_check.specs.Picks.{IsKeptPick};
 ghost use Rattle.ordered_check.specs.Together.{IsOfUse, AreSafe};
 
 use crate::cases::{OrderedCase, PreparedRound};
+use crate::exits::are_let;
 use crate::guarded::GuardedWalks;
 use crate::judging::first_of_class;
 use crate::least::least_not_lower;
@@ -49,7 +50,7 @@ fn first_of(found: Option<Reason>, later: Option<Reason>) -> Option<Reason>
         Some(reason) => match later {
             None => found,
             Some(other) => {
-                if other.number() < reason.number() {
+                if other.precedence() < reason.precedence() {
                     later
                 } else {
                     found
@@ -176,6 +177,10 @@ impl<'a> ClassJudge for OrderedJudge<'a> {
         has_begun(pick, self.round.number)
     }
 
+    fn can_all_stand(&self) -> bool {
+        !self.standing.begins
+    }
+
     fn may_touch(&self, numbered: NumberedClass) -> bool {
         let standing = self.standing;
         let atom = standing.looked.atom_of(numbered.number);
@@ -201,7 +206,7 @@ impl<'a> ClassJudge for OrderedJudge<'a> {
         if members.is_empty() {
             return;
         }
-        if are_safe(walk, self.of, group) {
+        if are_safe(walk, self.of, group) && are_let(walk, self.of, members.as_slice()) {
             return;
         }
         members.clear();

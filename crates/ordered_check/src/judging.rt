@@ -20,6 +20,7 @@ ghost use Rattle.mixed_walks.specs.Marked.{IsNear};
 ghost use Rattle.net_base.specs.Switches.{most_switches};
 
 use crate::cases::OrderedCase;
+use crate::exits::least_elsewhere;
 use crate::guarded::{GuardedClass, GuardedWalks};
 use crate::least::{least_not_lower, least_of};
 use crate::ways::{WayRound, first_way_round};
@@ -48,7 +49,7 @@ fn least_drop(duties: &Duties, numbered: NumberedClass, dropping: &[SwitchId]) -
 /// judge them anew.
 const MANY_POSITIONS: usize = 64;
 
-/// The first waypoint of a class that isn't guarded, where its mixed walks are those that were walked last and these are its
+/// The first item of the chains of a class that isn't guarded, where its mixed walks are those that were walked last and these are its
 /// before sets.
 fn way_by_walks(
     of: &OrderedCase,
@@ -169,6 +170,13 @@ pub(crate) fn first_of_class(
     let duties = of.class_duties();
     if let Some(switch) = least_drop(duties, numbered, walk.dropping()) {
         return Some(Reason::MayDrop {
+            round,
+            class,
+            switch,
+        });
+    }
+    if let Some(switch) = least_elsewhere(duties, numbered, walk.exits()) {
+        return Some(Reason::MayLeave {
             round,
             class,
             switch,

@@ -12,7 +12,7 @@ ghost use Rattle.net_base.specs.Switches.{most_switches};
 
 use acyclic_numbering::{Edge, Numbering, lowers};
 use check_reasons::lesser;
-use net_base::SwitchId;
+use net_base::{SwitchGroup, SwitchId};
 use waypoint_evidence::{Before, begins, meets};
 
 /// The least of the switches from which a step goes to no lower number.
@@ -52,28 +52,28 @@ fn least_held(set: &Before, switches: &[SwitchId]) -> Option<SwitchId>
     least
 }
 
-/// Whether the step leaves the set otherwise than from outside the set before to the waypoint.
-fn strays(set: &Before, step: Edge, waypoint: SwitchId, earlier: Option<&Before>) -> bool
+/// Whether the step leaves the set otherwise than from outside the set before to a switch of the item.
+fn strays(set: &Before, step: Edge, item: &SwitchGroup, earlier: Option<&Before>) -> bool
     requires { (step.from.0 < most_switches) × (step.to.0 < most_switches) }
     ensures { IsTrue result ↔ Strays (record {
-      waypoint = waypoint;
+      item = item.now;
       earlier = option_copied earlier.entry;
       set = set.now;
     }) step }
 {
-    set.holds(step.from) && !set.holds(step.to) && !meets(step, waypoint, earlier)
+    set.holds(step.from) && !set.holds(step.to) && !meets(step, item, earlier)
 }
 
 /// The least of the switches from which a step strays.
 fn least_stray(
     set: &Before,
     steps: &[Edge],
-    waypoint: SwitchId,
+    item: &SwitchGroup,
     earlier: Option<&Before>,
 ) -> Option<SwitchId>
     requires { All IsNear steps.now }
     ensures { IsLeastOf (HasStray steps.now (record {
-      waypoint = waypoint;
+      item = item.now;
       earlier = option_copied earlier.entry;
       set = set.now;
     })) result }
@@ -82,7 +82,7 @@ fn least_stray(
     for step in steps {
         least = lesser(
             least,
-            strays(set, *step, waypoint, earlier).then_some(step.from),
+            strays(set, *step, item, earlier).then_some(step.from),
         );
     }
     least
@@ -95,21 +95,21 @@ pub(crate) fn least_way_round(
     steps: &[Edge],
     leaving: &[SwitchId],
     set: &Before,
-    waypoint: SwitchId,
+    item: &SwitchGroup,
     earlier: Option<&Before>,
 ) -> Option<SwitchId>
     requires start { start.0 < most_switches }
     requires steps { All IsNear steps.now }
     requires leaving { All (λ s. s.0 < most_switches) leaving.now }
     ensures { IsLeastOf (IsWayRound start (IsEdge steps.now) (λ s. IsIn s leaving.now)
-        (record { waypoint = waypoint; earlier = option_copied earlier.entry; set = set.now }))
+        (record { item = item.now; earlier = option_copied earlier.entry; set = set.now }))
         result }
 {
-    let unbegun = !begins(set, start, waypoint, earlier);
+    let unbegun = !begins(set, start, item, earlier);
     let at_start = unbegun.then_some(start);
     let at_set = lesser(
         least_held(set, leaving),
-        least_stray(set, steps, waypoint, earlier),
+        least_stray(set, steps, item, earlier),
     );
     lesser(at_start, at_set)
 }

@@ -2,6 +2,7 @@
 #![tactic(auto)]
 
 mod cases;
+mod exits;
 mod guarded;
 mod judge;
 mod judging;

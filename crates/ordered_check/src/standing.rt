@@ -1,5 +1,5 @@
 //! What is known of the classes before those of a round are judged: the picks in force, and which atoms the round touches.
-ghost use Rattle.std.specs.Prelude.{◌≡◌, ◌<◌, suc, length, IfOk};
+ghost use Rattle.std.specs.Prelude.{◌≡◌, ◌<◌, false, suc, length, IfOk};
 ghost use Rattle.net_base.specs.Members.{IsIn};
 ghost use Rattle.dest_classes.specs.Classes.{class_count, atom_count};
 ghost use Rattle.update_model.specs.Changes.{round_after};
@@ -8,7 +8,7 @@ ghost use Rattle.certificates.specs.declared.OrderedPick.{OrderedPick};
 ghost use Rattle.check_reasons.specs.AtomMarks.{AreTouched};
 ghost use Rattle.ordered_check.specs.Looked.{AreLookedAt};
 ghost use Rattle.ordered_check.specs.Picks.{PicksStand};
-ghost use Rattle.ordered_check.specs.Standing.{HasStandingRoom};
+ghost use Rattle.ordered_check.specs.Standing.{HasStandingRoom, IsSettled};
 
 use crate::cases::{OrderedCase, PreparedRound};
 use crate::picks::PicksInForce;
@@ -21,12 +21,13 @@ use std::alloc::Global;
 use std::marker::Model;
 
 /// Of each class its pick in force; of each atom whether a change of the round touches it, and whether its classes are looked
-/// at in the round.
+/// at in the round; and whether the round is the first one, or a pick begins with it.
 #[derive(Drop)]
 pub(crate) struct Standing {
     pub(crate) picks: PicksInForce,
     pub(crate) touched: TouchedAtoms,
     pub(crate) looked: LookedAtoms,
+    pub(crate) begins: bool,
 }
 
 impl Model for Standing {
@@ -34,7 +35,7 @@ impl Model for Standing {
 
     ghost Value = { StandingState };
 
-    ghost view = { λ s. record { picks = s.picks; touched = s.touched; looked = s.looked } };
+    ghost view = { λ s. record { picks = s.picks; touched = s.touched; looked = s.looked; begins = s.begins } };
 }
 
 /// Chooses the atoms whose classes are looked at in a round: all of them in the first one; later those that a change of the
@@ -72,6 +73,7 @@ impl Standing {
             touched: TouchedAtoms::make(alloc)?,
             looked: LookedAtoms::make(alloc, classes)?,
             picks: PicksInForce::make(alloc, classes.count())?,
+            begins: true,
         })
     }
 
@@ -86,6 +88,8 @@ impl Standing {
         ensures touched { AreTouched (classes_for of.now.task) round.now.changes.now
             self.new.touched }
         ensures looked { AreLookedAt of.now.task of.now.evidence round.now.number self.new.looked }
+        ensures settled { self.new.begins ≡ false
+            → IsSettled of.now.evidence round.now.number }
     {
         of.keeps_valid();
         let k = round.number;
@@ -95,6 +99,7 @@ impl Standing {
         self.picks.advance(picks, (k + 1) as u32);
         self.touched.mark(of.case, of.class_map(), k);
         let begun = self.picks.taken_since(picks, taken);
+        self.begins = k == 0 || !begun.is_empty();
         choose(&mut self.looked, of, round, &self.touched, begun);
     }
 }

@@ -16,22 +16,22 @@ use acyclic_numbering::Edge;
 use check_reasons::{earlier_set, from_place, set_at};
 use demands::Duties;
 use dest_classes::NumberedClass;
-use net_base::SwitchId;
+use net_base::{SwitchGroup, SwitchId};
 use waypoint_evidence::Before;
 
-/// A waypoint that isn't guarded, and the least switch at which it isn't.
+/// The least switch of an item of a chain that isn't guarded, and the least switch at which it isn't.
 #[derive(Clone, Copy)]
 pub(crate) struct WayRound {
     pub(crate) waypoint: SwitchId,
     pub(crate) switch: SwitchId,
 }
 
-/// The first waypoint of a chain that isn't guarded, where the first numbers are those of its before sets.
+/// The first item of a chain that isn't guarded, where the first numbers are those of its before sets.
 fn way_round_chain(
     start: SwitchId,
     steps: &[Edge],
     leaving: &[SwitchId],
-    chain: &[SwitchId],
+    chain: &[SwitchGroup],
     befores: &[Before],
     indices: &[u64],
 ) -> Option<WayRound>
@@ -47,12 +47,12 @@ fn way_round_chain(
         (IsWayRound start (IsEdge steps.now) (λ s. IsIn s leaving.now))
         (chain_positions None chain.now (sets_of befores.now indices.now))) }
 {
-    for (place, waypoint) in chain.iter().enumerate() {
+    for (place, item) in chain.iter().enumerate() {
         let set = set_at(befores, indices, place);
         let earlier = earlier_set(befores, indices, place);
-        if let Some(switch) = least_way_round(start, steps, leaving, set, *waypoint, earlier) {
+        if let Some(switch) = least_way_round(start, steps, leaving, set, item, earlier) {
             return Some(WayRound {
-                waypoint: *waypoint,
+                waypoint: item.least(),
                 switch,
             });
         }
@@ -60,7 +60,7 @@ fn way_round_chain(
     None
 }
 
-/// The first waypoint of the chains of a class that isn't guarded, where these are the numbers of its before sets.
+/// The first item of the chains of a class that isn't guarded, where these are the numbers of its before sets.
 pub(crate) fn first_way_round(
     steps: &[Edge],
     leaving: &[SwitchId],

@@ -34,7 +34,7 @@ use Rattle.demands.proofs.DutyLaws.{duties_same}
 use Rattle.config_check.specs.Broken.{BreaksSo, EndsSo}
 use Rattle.config_check.specs.Everywhere.{HasPrefixes}
 use Rattle.config_check.specs.declared.How.{How}
-use Rattle.config_check.specs.declared.How.TheVariants.{Loop, Dropped, Missed}
+use Rattle.config_check.specs.declared.How.TheVariants.{Loop, Dropped, Leaked, Missed}
 use Rattle.config_check.proofs.AddressLaws.{good_same}
 use Rattle.config_command.specs.Configs.{ConfigMeaning}
 use Rattle.config_command.specs.Verdicts.{classes_under}
@@ -99,7 +99,7 @@ module _ (net : Network) (tables : List (List Rule)) (demands : List DemandView)
   covered_same : (entry : Place) (ds : List DemandView) → AllByRecursion (λ d. in_block d.dst a ≡ in_block d.dst b) ds → list_any (λ d. demand_covers d entry a) ds ≡ list_any (λ d. demand_covers d entry b) ds
   covered_same entry [] alike = refl
   covered_same entry (d ∷ ds) alike =
-      ap (λ t. (admits_entry d.from entry && admits_vlan d.vlan entry.vlan && t) || list_any (λ q. demand_covers q entry a) ds) alike.0
+      ap (λ t. (admits_entry d.from d.exits entry && admits_vlan d.vlan entry.vlan && t) || list_any (λ q. demand_covers q entry a) ds) alike.0
       ∙ ap (λ t. demand_covers d entry b || t) (covered_same entry ds alike.1)
 
   so_same : (entry : Place) (trace : Trace) → EndsSo net tables a entry trace → EndsSo net tables b entry trace
@@ -108,6 +108,7 @@ module _ (net : Network) (tables : List (List Rule)) (demands : List DemandView)
   breaks_same : (duties : PacketDuties) (entry : Place) (how : How) → BreaksSo net tables duties entry a how → BreaksSo net tables duties entry b how
   breaks_same duties entry (Loop s) (stops, comes) = (stops, again_same entry stops s comes)
   breaks_same duties entry (Dropped s) (trace, ends, dropped, must) = (trace, so_same entry trace ends, dropped, must)
+  breaks_same duties entry (Leaked s) (trace, ends, elsewhere) = (trace, so_same entry trace ends, elsewhere)
   breaks_same duties entry (Missed w) (trace, ends, left, misses) = (trace, so_same entry trace ends, left, misses)
 
   mark_same : (entry : Place) (mark : Mark) → IsMark net tables demands (record { entry = entry; first = a }) mark → IsMark net tables demands (record { entry = entry; first = b }) mark

@@ -13,7 +13,7 @@ use Rattle.certificates.specs.declared.Evidence.{Evidence}
 use Rattle.certificates.specs.declared.Evidence.TheVariants.{Ordered, TwoPhase}
 use Rattle.check_reasons.specs.Ranks.{Rank, IsBefore, rank_of, least_class_number, round_start, end_start}
 use Rattle.check_reasons.specs.Reasons.{IsBadChange, IsUnclear, HasRewrite, IsReason, IsOwnReason, IsCommonReason, old_breaks, new_breaks, bad_change, ambiguous, over_capacity, wrong_end}
-use Rattle.check_reasons.specs.Reasons.{rewrites, no_numbering, not_lower, may_drop, no_before, bypass, bad_labels, mixed_path}
+use Rattle.check_reasons.specs.Reasons.{rewrites, no_numbering, not_lower, may_drop, may_leave, no_before, bypass, bad_labels, mixed_path}
 use Rattle.check_reasons.proofs.RankLaws.{IsInRound, in_round, at_end, own_in_rounds}
 use Rattle.plan_checker.specs.Rewrites.{IsOrdered}
 use Rattle.check_reasons.specs.declared.reason.Reason.{Reason}
@@ -55,10 +55,11 @@ module _ (t : Task) (evidence : Evidence) (k : ℕ) (place : Rank) where
     own_in_round (Ordered e) same i r (no_numbering j n class judged none) here before = absurd (let high : 6 ≤ place.number = here.upto in omega arith)
     own_in_round (Ordered e) same i r (not_lower j n class numbers sets s judged force bad) here before = absurd (let high : 7 ≤ place.number = here.upto in omega arith)
     own_in_round (Ordered e) same i r (may_drop j n class s judged arrive drops) here before = absurd (let high : 8 ≤ place.number = here.upto in omega arith)
-    own_in_round (Ordered e) same i r (no_before j n class numbers sets judged force other) here before = absurd (let high : 9 ≤ place.number = here.upto in omega arith)
-    own_in_round (Ordered e) same i r (bypass j n x class numbers sets p s judged force at bypassed) here before = absurd (let high : 10 ≤ place.number = here.upto in omega arith)
-    own_in_round (TwoPhase e) same i r (bad_labels j n class judged none) here before = absurd (let high : 11 ≤ place.number = here.upto in omega arith)
-    own_in_round (TwoPhase e) same i r (mixed_path j n class labels s judged force how) here before = absurd (let high : 12 ≤ place.number = here.upto in omega arith)
+    own_in_round (Ordered e) same i r (may_leave j n class s judged leaves) here before = absurd (let high : 9 ≤ place.number = here.upto in omega arith)
+    own_in_round (Ordered e) same i r (no_before j n class numbers sets judged force other) here before = absurd (let high : 10 ≤ place.number = here.upto in omega arith)
+    own_in_round (Ordered e) same i r (bypass j n x class numbers sets p s judged force at bypassed w least) here before = absurd (let high : 11 ≤ place.number = here.upto in omega arith)
+    own_in_round (TwoPhase e) same i r (bad_labels j n class judged none) here before = absurd (let high : 12 ≤ place.number = here.upto in omega arith)
+    own_in_round (TwoPhase e) same i r (mixed_path j n class labels s judged force how) here before = absurd (let high : 13 ≤ place.number = here.upto in omega arith)
 
     pub first_in_round : place.stage ≡ 2 → place.round ≡ suc k → (i : ℕ) (r : Reason) → IsReason t evidence i r → ¬ IsBefore (rank_of i r) (round_start k) → ¬ IsBefore (rank_of i r) place
     first_in_round stage round i r h after before =

@@ -30,7 +30,7 @@ use Rattle.update_model.specs.declared.Change.{Change}
 use Rattle.update_model.proofs.RoundLaws.{length-settled}
 use Rattle.certificates.specs.Ordered.{IsMeant, IsSafe, Position, positions, IsPickInForce}
 use Rattle.waypoint_evidence.specs.Befores.{Holds, IsFirst, IsGuard}
-use Rattle.certificates.specs.Steps.{IsMixedStep, MayLeave}
+use Rattle.certificates.specs.Steps.{IsMixedStep, MayLeave, MayLeaveElsewhere}
 use Rattle.certificates.specs.Updates.{Task, rollout}
 use Rattle.certificates.specs.Certified.{KeepsVlan, classes_for}
 use Rattle.certificates.specs.TwoPhase.{tables_of, Agrees}
@@ -127,6 +127,9 @@ module _ (t : Task) (e : OrderedEvidence) (chain : IsChain IsPickBefore e.picks)
   pub drop_refuted : IsTrue (class_duties t class).arrive → (s : SwitchId) → ¬ DropsAt (rollout t) k class.first class.entry s
   drop_refuted arrive s drops = (pass n class is).safe.arrives arrive (record { place = drops.place; on_walk = drops.on_walk; drops = drops.drops })
 
+  pub leave_refuted : (s : SwitchId) → ¬ MayLeaveElsewhere (rollout t) k class.first class.entry (class_duties t class).exits s
+  leave_refuted s leaves = (pass n class is).safe.exits s leaves
+
   pub count_refuted : (numbers : List ℕ) (sets : List (List ℕ)) → IsInForce e k n numbers sets → ¬ (length sets ≢ length (flat_map (λ chain. chain) (class_duties t class).chains))
   count_refuted numbers sets force differ = differ (safe_at numbers sets force).guarded.count
 
@@ -135,10 +138,10 @@ module _ (t : Task) (e : OrderedEvidence) (chain : IsChain IsPickBefore e.picks)
   bypass_refuted numbers sets force i p at s bypassed =
       let edge = IsMixedStep (rollout t) k class.first class.entry in
       let all = positions (class_duties t class).chains sets in
-      let guard = each_at (λ q. IsGuard class.entry.switch (IsMixedStep (rollout t) k class.first class.entry) (MayLeave (rollout t) k class.first class.entry) q.waypoint q.earlier q.set)
+      let guard = each_at (λ q. IsGuard class.entry.switch (IsMixedStep (rollout t) k class.first class.entry) (MayLeave (rollout t) k class.first class.entry) q.item q.earlier q.set)
       all p (safe_at numbers sets force).guarded.guards (in_from_get all i p at) in
       elim bypassed [
-        | inl (here, begins_not) ↦ begins_not (subst (λ x. Holds p.set x ⊎ (IsFirst p.earlier × (x ≡ p.waypoint))) (sym here) guard.before.begins)
+        | inl (here, begins_not) ↦ begins_not (subst (λ x. Holds p.set x ⊎ (IsFirst p.earlier × IsIn x p.item)) (sym here) guard.before.begins)
         | inr (inl (holds, leaves)) ↦ guard.keeps s leaves holds
         | inr (inr (next, holds, step, out, other)) ↦ elim (guard.before.stays s next step holds) [ inl inside ↦ out inside | inr allowed ↦ other allowed ]
       ]

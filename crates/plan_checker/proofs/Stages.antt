@@ -22,13 +22,13 @@ use Rattle.std.specs.Prelude.{sum_by}
 use Rattle.check_reasons.specs.Cases.{CaseView}
 use Rattle.check_reasons.specs.Cases.{IsChecked}
 use Rattle.plan_checker.specs.Checking.{EndsAreGood, EndsAtNew}
-use Rattle.check_reasons.specs.Ranks.{Rank, IsBefore, rank_of, stage_of, round_of, number_of, least_class_number, round_start, classes_start, end_start}
+use Rattle.check_reasons.specs.Ranks.{Rank, IsBefore, rank_of, stage_of, round_of, precedence_of, least_class_number, round_start, classes_start, end_start}
 use Rattle.check_reasons.specs.Reasons.{IsReason, IsOwnReason, IsFirstReason, IsCommonReason, old_breaks, new_breaks, bad_change, ambiguous, over_capacity, wrong_end}
-use Rattle.check_reasons.specs.Reasons.{IsOrderedReason, rewrites, no_numbering, not_lower, may_drop, no_before, bypass, IsTwoPhaseReason, bad_labels, mixed_path}
+use Rattle.check_reasons.specs.Reasons.{IsOrderedReason, rewrites, no_numbering, not_lower, may_drop, may_leave, no_before, bypass, IsTwoPhaseReason, bad_labels, mixed_path}
 use Rattle.check_reasons.specs.Passed.{IsFirstFrom, NoneBefore, ChangesPass, ClassesPass, RoundsPass, RoundKeepsVlans}
 use Rattle.check_reasons.specs.declared.reason.Reason.{Reason}
-use Rattle.check_reasons.specs.declared.reason.Reason.TheVariants.{EndBreaks, BadChange, Ambiguous, OverCapacity, Rewrites, NoNumbering, NotLower, MayDrop, NoBefore, Bypass, BadLabels, MixedPath, WrongEnd}
-use Rattle.plan_checker.proofs.Refuted.{break_refuted, within_rounds, bad_change_refuted, unclear_refuted, need_fits, rewrite_refuted, bad_step_refuted, no_pick_refuted, drop_refuted, count_refuted, bypass_refuted, no_table_refuted, mixed_entry_refuted, stray_refuted}
+use Rattle.check_reasons.specs.declared.reason.Reason.TheVariants.{EndBreaks, BadChange, Ambiguous, OverCapacity, Rewrites, NoNumbering, NotLower, MayDrop, MayLeave, NoBefore, Bypass, BadLabels, MixedPath, WrongEnd}
+use Rattle.plan_checker.proofs.Refuted.{break_refuted, within_rounds, bad_change_refuted, unclear_refuted, need_fits, rewrite_refuted, bad_step_refuted, no_pick_refuted, drop_refuted, leave_refuted, count_refuted, bypass_refuted, no_table_refuted, mixed_entry_refuted, stray_refuted}
 use Rattle.net_base.proofs.ItemLaws.{in_from_get}
 
 -- picks ascend, by round and then by class
@@ -45,7 +45,7 @@ pub data IsStaged (t : Task) (e : Evidence) : ℕ → Reason → Type 0 where
   AtOld : (breaks : Breaks) → ¬ HasGoodPaths t.update.net t.update.old t.update.demands (classes_for t) → IsStaged t e 0 (EndBreaks false breaks)
   AtNew : (breaks : Breaks) → ¬ HasGoodPaths t.update.net t.update.new t.update.demands (classes_for t) → IsStaged t e 0 (EndBreaks true breaks)
   InChanges : (i : ℕ) (r : Reason) (k : ℕ) → stage_of r ≡ 2 → round_of r ≡ suc k → k < length t.rounds → ¬ ChangesPass t e k → IsStaged t e i r
-  InClasses : (i : ℕ) (r : Reason) (k : ℕ) → stage_of r ≡ 2 → round_of r ≡ suc k → least_class_number ≤ number_of r → k < length t.rounds → ¬ ClassesPass t e k → IsStaged t e i r
+  InClasses : (i : ℕ) (r : Reason) (k : ℕ) → stage_of r ≡ 2 → round_of r ≡ suc k → least_class_number ≤ precedence_of r → k < length t.rounds → ¬ ClassesPass t e k → IsStaged t e i r
   AtLast : (s : SwitchId) → ¬ EndsAtNew t → IsStaged t e 0 (WrongEnd s)
 
 module _ (t : Task) (count : length t.update.old ≡ switch_count t.update.net) where
@@ -69,10 +69,12 @@ module _ (t : Task) (count : length t.update.old ≡ switch_count t.update.net) 
       InClasses 0 (NotLower (suc k) n s) k refl refl (omega arith) judged.within (λ pass. bad_step_refuted t e chain k pass n class judged.is numbers sets force s bad)
   ordered_staged e chain i r (may_drop k n class s judged arrive drops) =
       InClasses 0 (MayDrop (suc k) n s) k refl refl (omega arith) judged.within (λ pass. drop_refuted t e chain k pass n class judged.is arrive s drops)
+  ordered_staged e chain i r (may_leave k n class s judged leaves) =
+      InClasses 0 (MayLeave (suc k) n s) k refl refl (omega arith) judged.within (λ pass. leave_refuted t e chain k pass n class judged.is s leaves)
   ordered_staged e chain i r (no_before k n class numbers sets judged force differ) =
       InClasses 0 (NoBefore (suc k) n) k refl refl (omega arith) judged.within (λ pass. count_refuted t e chain k pass n class judged.is numbers sets force differ)
-  ordered_staged e chain i r (bypass k n j class numbers sets p s judged force stands bypassed) =
-      InClasses j (Bypass (suc k) n p.waypoint s) k refl refl (omega arith) judged.within (λ pass. bypass_refuted t e chain k pass n class judged.is numbers sets force j p stands s bypassed)
+  ordered_staged e chain i r (bypass k n j class numbers sets p s judged force stands bypassed w least) =
+      InClasses j (Bypass (suc k) n w s) k refl refl (omega arith) judged.within (λ pass. bypass_refuted t e chain k pass n class judged.is numbers sets force j p stands s bypassed)
 
   two_phase_staged : (e : TwoPhaseEvidence) → IsChain (λ p q. p.round < q.round) e.picks → (i : ℕ) (r : Reason) → IsTwoPhaseReason t e i r → IsStaged t (TwoPhase e) i r
   two_phase_staged e chain i r (bad_labels k n class judged none) =

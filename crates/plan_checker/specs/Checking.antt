@@ -10,7 +10,7 @@ use Rattle.certificates.specs.Certified.{classes_for}
 use Rattle.certificates.specs.declared.Evidence.{Evidence}
 use Rattle.certificates.specs.declared.Evidence.TheVariants.{Ordered, TwoPhase}
 use Rattle.check_reasons.specs.Cases.{CaseView}
-use Rattle.check_reasons.specs.Ranks.{stage_of, round_of, number_of, least_class_number}
+use Rattle.check_reasons.specs.Ranks.{stage_of, round_of, precedence_of, least_class_number}
 use Rattle.plan_checker.specs.Fits.{FitsPlan}
 use Rattle.plan_checker.specs.declared.evidence_room.EvidenceRoom.{EvidenceRoom}
 use Rattle.plan_checker.specs.declared.evidence_room.EvidenceRoom.TheVariants as room
@@ -40,7 +40,7 @@ EndsAtNew t = (s : SwitchId) → IsSameSet (rules_at (tables_before (rollout t) 
 pub record IsOfChanges (k : ℕ) (r : Reason) : Type 0 where
   pub stage : stage_of r ≡ 2
   pub round : round_of r ≡ suc k
-  pub number : number_of r < least_class_number
+  pub number : precedence_of r < least_class_number
 
 -- what is kept of the picks, and of the walks of an ordered plan, stands before round k
 abbrev pub EvidenceStands : Task → Evidence → ℕ → EvidenceRoom → Type 0

@@ -1,7 +1,9 @@
 //! What `plan` and `pack` answer alike.
 use crate::planners::{Planner, answer_by, are_planned};
 use command_base::Status;
-use example_files::{UpdateTexts, detour, detour_plans, none, single, square, triangle, wide};
+use example_files::{
+    UpdateTexts, detour, detour_plans, exits, none, single, square, triangle, wide,
+};
 use std::alloc::Global;
 use std::process::Abort;
 
@@ -20,7 +22,7 @@ fn are_answered(
 
 #[test]
 fn both_make_the_same_plan_of_one_change_a_round_and_of_two_phases(rt: HostRuntime) {
-    let rows: [(UpdateTexts<'_>, &[u8], &[u8]); 6] = [
+    let rows: [(UpdateTexts<'_>, &[u8], &[u8]); 7] = [
         (
             square::update(),
             square::plan(),
@@ -50,6 +52,11 @@ fn both_make_the_same_plan_of_one_change_a_round_and_of_two_phases(rt: HostRunti
             detour::open_update(),
             detour_plans::two_phases_after_two_rounds(),
             b"accepted: two-phase, 8 rounds, 6 classes\n",
+        ),
+        (
+            exits::update(),
+            exits::searched(),
+            b"accepted: ordered, 2 rounds, 12 classes\n",
         ),
     ];
     for planner in [Planner::Plan, Planner::Pack] {

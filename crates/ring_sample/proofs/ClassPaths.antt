@@ -140,7 +140,7 @@ module _ (n i : ℕ) (vlan : Vlan) (dst out : ℕ) where
     good = record {
       trace = record { stops = stop_of entry ∷ []; ended = Dropped entry.switch };
       path = record { rest = []; walk = tt; stops = refl; ended = sym (ap (ended_by entry) drops); ends = tt };
-      good = record { distinct = (λ x. x, tt); chains = tt; arrives = λ must _. free must };
+      good = record { distinct = (λ x. x, tt); chains = tt; exits = tt; arrives = λ must _. free must };
     };
     stays = refl;
   }

@@ -15,9 +15,9 @@ use Rattle.certificates.specs.declared.OrderedEvidence.{OrderedEvidence}
 use Rattle.certificates.specs.declared.Evidence.{Evidence}
 use Rattle.certificates.specs.declared.Evidence.TheVariants.{Ordered, TwoPhase}
 use Rattle.check_reasons.specs.Cases.{CaseView}
-use Rattle.check_reasons.specs.Ranks.{Rank, IsBefore, rank_of, stage_of, number_of, least_class_number, round_start, end_start}
+use Rattle.check_reasons.specs.Ranks.{Rank, IsBefore, rank_of, stage_of, precedence_of, least_class_number, round_start, end_start}
 use Rattle.check_reasons.specs.Reasons.{IsOwnReason, IsFirstReason, IsCommonReason, old_breaks, new_breaks, bad_change, ambiguous, over_capacity, wrong_end}
-use Rattle.check_reasons.specs.Reasons.{HasRewrite, class_duties, rewrites, no_numbering, not_lower, may_drop, no_before, bypass, bad_labels, mixed_path}
+use Rattle.check_reasons.specs.Reasons.{HasRewrite, class_duties, rewrites, no_numbering, not_lower, may_drop, may_leave, no_before, bypass, bad_labels, mixed_path}
 use Rattle.check_reasons.specs.Passed.{IsFirstFrom, ChangesPass, RoundKeepsVlans}
 use Rattle.check_reasons.proofs.RankLaws.{own_in_rounds}
 use Rattle.check_reasons.specs.declared.reason.Reason.{Reason}
@@ -56,13 +56,14 @@ common_at t i r (wrong_end s differ) = (refl, wrong_end s differ)
 common_cause : (c : CaseView) (i : ℕ) (r : Reason) → IsCommonReason c.task i r → (i ≡ 0) × IsCause c (Checked r)
 common_cause c i r h = let (at, common) = common_at c.task i r h in (at, common_reason r common)
 
-own_cause : (c : CaseView) (any : Evidence) (i : ℕ) (r : Reason) → IsOwnReason c.task any i r → number_of r < least_class_number → (i ≡ 0) × IsCause c (Checked r)
+own_cause : (c : CaseView) (any : Evidence) (i : ℕ) (r : Reason) → IsOwnReason c.task any i r → precedence_of r < least_class_number → (i ≡ 0) × IsCause c (Checked r)
 own_cause c (Ordered e) i r (rewrites k s has) few = (refl, some_rewrite k s has)
 own_cause c (Ordered e) i r (no_numbering k n class judged none) few = absurd (omega arith)
 own_cause c (Ordered e) i r (not_lower k n class numbers sets s judged force bad) few = absurd (omega arith)
 own_cause c (Ordered e) i r (may_drop k n class s judged arrive drops) few = absurd (omega arith)
+own_cause c (Ordered e) i r (may_leave k n class s judged leaves) few = absurd (omega arith)
 own_cause c (Ordered e) i r (no_before k n class numbers sets judged force differ) few = absurd (omega arith)
-own_cause c (Ordered e) i r (bypass k n j class numbers sets p s judged force at bypassed) few = absurd (omega arith)
+own_cause c (Ordered e) i r (bypass k n j class numbers sets p s judged force at bypassed w least) few = absurd (omega arith)
 own_cause c (TwoPhase e) i r (bad_labels k n class judged none) few = absurd (omega arith)
 own_cause c (TwoPhase e) i r (mixed_path k n class labels s judged force how) few = absurd (omega arith)
 

@@ -1,10 +1,10 @@
 -- What is found for the classes, class by class, and what the pick in force says of a class.
 use Rattle.std.proofs.Common.{◌≡◌, ◌≢◌, ◌⊎◌, ◌↔◌, ℕ, zero, suc, ◌+◌, ◌<◌, ◌≤◌, false, List, [], ◌∷◌, ◌++◌, length, get_or, Option, Some, None, Result, Ok, Err, Vec, Global, refl, sym, ◌∙◌, subst, ap, inl, inr, arith}
-use Rattle.std.specs.Prelude.{slice_get, IfOk, IsOkAnd}
+use Rattle.std.specs.Prelude.{slice_get, IfOk, IsErr, IsOkAnd, OnErr}
 use Rattle.std.specs.List.{AllByRecursion, AllZip}
 use Rattle.std.proofs.lemmas.Option.{same_Some, slice_get-get_or}
 use Rattle.std.proofs.lemmas.List.{get_or_default}
-use Rattle.std.proofs.lemmas.Bool.{cases_lt}
+use Rattle.std.proofs.lemmas.Bool.{cases_lt, false≢true}
 use Rattle.net_base.specs.Members.{IsIn}
 use Rattle.topology.specs.Networks.{Network, IsNetwork, switch_count}
 use Rattle.net_base.proofs.MemberLaws.{each_at, each_weaker, each_append, in_append_left, in_append_right}
@@ -339,3 +339,14 @@ pub verdict_there : {E : Type 0} (P : RoundVerdict → Type 0) (found : Vec Foun
 verdict_there P found failing (Err e) is held = tt
 verdict_there P found (Ok f) (Ok v) is held = subst P (sym is) held
 verdict_there P found (Err e) (Ok v) is held = absurd is
+
+-- what is left where nothing was found is left where there is no verdict
+pub refused_there : {A B E F : Type 0} (P : Type 0) (failing : Result A E) (result : Result B F) → OnErr result (IsErr failing) → OnErr failing P → OnErr result P
+refused_there P failing (Ok v) is left = tt
+refused_there P (Err e) (Err f) is left = left
+refused_there P (Ok a) (Err f) is left = absurd (false≢true is)
+
+-- what stands stands after a refusal
+pub on_err : {T E P : Type 0} (r : Result T E) → P → OnErr r P
+on_err (Ok x) p = tt
+on_err (Err e) p = p

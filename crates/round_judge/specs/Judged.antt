@@ -18,7 +18,7 @@ use Rattle.round_mix.specs.Prepared.{MixedState}
 use Rattle.mixed_walks.specs.Walks.{IsRoundOf}
 use Rattle.evidence_store.specs.Found.{IsSafeEvidence}
 use Rattle.evidence_store.specs.State.{StoreState}
-use Rattle.evidence_store.specs.Stored.{IsWithPick}
+use Rattle.evidence_store.specs.Stored.{IsWithPick, no_evidence}
 use Rattle.class_watch.specs.Walks.{HoldsWalks}
 use Rattle.round_judge.specs.declared.judging.FoundEvidence.{FoundEvidence}
 use Rattle.round_judge.specs.declared.judging.ClassVerdict.{ClassVerdict}
@@ -141,6 +141,10 @@ pub record AreMetSafe (to : Target) (u : Rollout) (e : OrderedEvidence) (k : ℕ
 abbrev pub AreMetJudged : Target → Rollout → OrderedEvidence → ℕ → RoundVerdict → List ℕ → Type 0
 AreMetJudged to u e k (verdict.Safe found) came = AreMetSafe to u e k found.items came
 AreMetJudged to u e k (verdict.Unsafe f) came = HasUnsafe to u k f × (0 < k → CanBeSafeBelow to u k f.number) × HoldTables to (tables_before u k) came
+
+-- the store is of no classes, and holds no evidence
+abbrev pub IsEmptyStore : StoreState → Type 0
+IsEmptyStore store = store ≡ record { evidence = no_evidence; classes = 0 }
 
 -- the evidence with a pick more for each class for which new evidence was found
 abbrev pub AreWithPicks : OrderedEvidence → ℕ → List FoundEvidence → OrderedEvidence → Type 0

@@ -1,5 +1,5 @@
 //! What the rounds of an ordered plan are for.
-ghost use Rattle.std.specs.Prelude.{◌≡◌, ◌<◌, ◌≤◌, ◌∷◌, [], ℕ, length, slice_set, IfOk, OnOk};
+ghost use Rattle.std.specs.Prelude.{◌≡◌, ◌<◌, ◌≤◌, ◌∷◌, [], ℕ, length, slice_set, IfOk, OnOk, OnErr};
 ghost use Rattle.topology.specs.Networks.{IsNetwork};
 ghost use Rattle.path_walk.specs.UserConfigs.{IsUserConfig};
 ghost use Rattle.dest_classes.specs.Classes.{class_count};
@@ -108,7 +108,7 @@ impl<'a> Goal<'a> {
     }
 
     /// Evidence that keeps a class safe in the round whose mixed walks of it were walked last, if some does. The least before
-    /// sets that were found last serve again where they can.
+    /// sets that were found last serve again where they can. After a refusal they are as before.
     pub fn find_evidence(
         &self,
         alloc: Global,
@@ -125,6 +125,7 @@ impl<'a> Goal<'a> {
             → IsWalked u k numbered.class.first numbered.class.entry walk.now
             → IsFound u k numbered.class (duties_in self.now numbered.class) found) }
         ensures last { OnOk result (HoldsLastOf self.now last.new) }
+        ensures err { OnErr result (last.new ≡ last.old) }
     {
         self.net.keeps_rules();
         evidence_by_last(alloc, self.net, walk, self.duties, numbered, last)

@@ -1,5 +1,5 @@
 //! What is found for the classes in a round.
-ghost use Rattle.std.specs.Prelude.{◌≡◌, ◌≢◌, ◌↔◌, ℕ, ◌<◌, ◌≤◌, suc, List, [], length, IsTrue, IfOk, IfSome, IsOkAnd, OnOk, slice_get, Some};
+ghost use Rattle.std.specs.Prelude.{◌≡◌, ◌≢◌, ◌↔◌, ℕ, ◌<◌, ◌≤◌, suc, List, [], length, IsTrue, IsErr, IfOk, IfSome, IsOkAnd, OnErr, OnOk, slice_get, Some};
 ghost use Rattle.net_base.specs.Members.{IsIn};
 ghost use Rattle.std.specs.List.{AllByRecursion};
 ghost use Rattle.dest_classes.specs.Classes.{class_count, IsClass};
@@ -140,7 +140,7 @@ fn is_kept(goal: &Goal, walk: &WalkRoom, store: &EvidenceStore, numbered: Number
 }
 
 /// What is found for a class while the round is carried out. Its mixed walks are walked, and the switches that
-/// they come to are kept.
+/// they come to are kept, after a refusal too.
 fn judge_class(
     alloc: Global,
     goal: &Goal,
@@ -159,9 +159,8 @@ fn judge_class(
         → IsNextRound goal.now u tried.now.store.now.evidence k tried.now.changes.now
         → IsJudged goal.now u tried.now.store.now.evidence k numbered.number
         numbered.class judged) }
-    ensures walks { OnOk result ((u : Rollout) (k : ℕ)
-        → IsRoundOf goal.now.net tried.now.mixes.now u k
-        → HoldsWalks u k numbered.class (marks_at watch.new.came.items numbered.number)) }
+    ensures walks { (u : Rollout) (k : ℕ) → IsRoundOf goal.now.net tried.now.mixes.now u k
+        → HoldsWalks u k numbered.class (marks_at watch.new.came.items numbered.number) }
     ensures count { length watch.new.came.items ≡ length watch.old.came.items }
     ensures others { (n : ℕ) → n ≢ numbered.number
         → marks_at watch.new.came.items n ≡ marks_at watch.old.came.items n }
@@ -200,11 +199,11 @@ fn judge_if_met(
         → IsNextRound goal.now u tried.now.store.now.evidence k tried.now.changes.now
         → HoldsTables u.net (tables_before u k) class (marks_at watch.old.came.items number)
         → IsJudgedIfMet goal.now u tried.now.store.now.evidence k number class judged) }
-    ensures walks { OnOk result ((u : Rollout) (k : ℕ) (class : Class)
+    ensures walks { (u : Rollout) (k : ℕ) (class : Class)
         → IsRoundOf goal.now.net tried.now.mixes.now u k → IsClass goal.now.classes number class
         → IsNextRound goal.now u tried.now.store.now.evidence k tried.now.changes.now
         → HoldsTables u.net (tables_before u k) class (marks_at watch.old.came.items number)
-        → HoldsWalks u k class (marks_at watch.new.came.items number)) }
+        → HoldsWalks u k class (marks_at watch.new.came.items number) }
     ensures count { length watch.new.came.items ≡ length watch.old.came.items }
     ensures others { (n : ℕ) → n ≢ number
         → marks_at watch.new.came.items n ≡ marks_at watch.old.came.items n }
@@ -240,7 +239,8 @@ fn verdict_of(
     found: Vec<FoundEvidence>,
     failing: Result<Option<UnsafeClass>, Memory>,
 ) -> Result<RoundVerdict, Memory>
-    ensures { IfOk result (λ verdict. IsOkAnd failing (λ f. verdict ≡ verdict_of found f)) }
+    ensures ok { IfOk result (λ verdict. IsOkAnd failing (λ f. verdict ≡ verdict_of found f)) }
+    ensures err { OnErr result (IsErr failing) }
 {
     match failing {
         Ok(None) => Ok(RoundVerdict::Safe(found)),
@@ -256,7 +256,8 @@ fn verdict_of(
 }
 
 /// Finds evidence for the classes whose atoms are looked at, class by class, where a change meets them: these are the atoms
-/// that the changes touch. The result is the first class that is not safe by any evidence.
+/// that the changes touch. The result is the first class that is not safe by any evidence. After a refusal the set of each
+/// class still has the switches that its packets come to before the round.
 fn judge_touched(
     goal: &Goal,
     watch: &mut ClassWatch,
@@ -277,6 +278,11 @@ fn judge_touched(
         → HoldTables goal.now (tables_before u k) watch.old.came.items
         → AreMetJudged goal.now u tried.now.store.now.evidence k (verdict_of found.new failing)
         watch.new.came.items) }
+    ensures kept { OnErr result ((u : Rollout) (k : ℕ)
+        → IsRoundOf goal.now.net tried.now.mixes.now u k
+        → IsNextRound goal.now u tried.now.store.now.evidence k tried.now.changes.now
+        → HoldTables goal.now (tables_before u k) watch.old.came.items
+        → HoldTables goal.now (tables_before u k) watch.new.came.items) }
     ensures count { length watch.new.came.items ≡ length watch.old.came.items }
 {
     let alloc = *found.allocator();
@@ -293,7 +299,8 @@ fn judge_touched(
 }
 
 /// What is found for the classes whose packets a change covers at a switch that they come to, class by class, up to the
-/// first that is not safe by any evidence. Where there is a round before, that is all there is to find.
+/// first that is not safe by any evidence. Where there is a round before, that is all there is to find. After a refusal the
+/// set of each class still has the switches that its packets come to before the round.
 fn judge_met(
     alloc: Global,
     goal: &Goal,
@@ -310,6 +317,11 @@ fn judge_met(
         → IsNextRound goal.now u tried.now.store.now.evidence k tried.now.changes.now
         → HoldTables goal.now (tables_before u k) watch.old.came.items
         → AreMetJudged goal.now u tried.now.store.now.evidence k verdict watch.new.came.items) }
+    ensures kept { OnErr result ((u : Rollout) (k : ℕ)
+        → IsRoundOf goal.now.net tried.now.mixes.now u k
+        → IsNextRound goal.now u tried.now.store.now.evidence k tried.now.changes.now
+        → HoldTables goal.now (tables_before u k) watch.old.came.items
+        → HoldTables goal.now (tables_before u k) watch.new.came.items) }
     ensures count { length watch.new.came.items ≡ length watch.old.came.items }
 {
     let mut last = LastSets::none(alloc);
@@ -351,11 +363,11 @@ fn judge_next(
         → AllByRecursion (WasFound goal.now u tried.now.store.now.evidence k watch.old.came.items)
         before.old.items
         → IsJudged goal.now u tried.now.store.now.evidence k number class judged) }
-    ensures walks { OnOk result ((u : Rollout) (k : ℕ) (class : Class)
+    ensures walks { (u : Rollout) (k : ℕ) (class : Class)
         → IsRoundOf goal.now.net tried.now.mixes.now u k → IsClass goal.now.classes number class
         → AllByRecursion (WasFound goal.now u tried.now.store.now.evidence k watch.old.came.items)
         before.old.items
-        → HoldsWalks u k class (marks_at watch.new.came.items number)) }
+        → HoldsWalks u k class (marks_at watch.new.came.items number) }
     ensures before { (f : FoundOf) → IsIn f before.new.items → IsIn f before.old.items }
     ensures count { length watch.new.came.items ≡ length watch.old.came.items }
     ensures others { (n : ℕ) → n ≢ number
@@ -370,7 +382,8 @@ fn judge_next(
 }
 
 /// Finds evidence for all classes, class by class, where something was found before for some of them, in descending order of
-/// classes. The result is the first that is not safe by any evidence.
+/// classes. The result is the first that is not safe by any evidence. After a refusal the set of each class still has the
+/// switches that its packets come to before the round.
 fn judge_each(
     goal: &Goal,
     watch: &mut ClassWatch,
@@ -383,7 +396,7 @@ fn judge_each(
     requires came { length watch.old.came.items ≡ class_count goal.now.classes }
     requires last { HoldsLastOf goal.now last.old }
     requires none { found.old.items ≡ [] }
-    ensures { IfOk result (λ failing. (u : Rollout) (k : ℕ)
+    ensures judged { IfOk result (λ failing. (u : Rollout) (k : ℕ)
         → IsRoundOf goal.now.net tried.now.mixes.now u k
         → IsNextRound goal.now u tried.now.store.now.evidence k tried.now.changes.now
         → HoldTables goal.now (tables_before u k) watch.old.came.items
@@ -391,6 +404,13 @@ fn judge_each(
         before.old.items
         → AreFirstJudged goal.now u tried.now.store.now.evidence k (verdict_of found.new failing)
         × HoldAfter goal.now u k (verdict_of found.new failing) watch.new.came.items) }
+    ensures kept { OnErr result ((u : Rollout) (k : ℕ)
+        → IsRoundOf goal.now.net tried.now.mixes.now u k
+        → IsNextRound goal.now u tried.now.store.now.evidence k tried.now.changes.now
+        → HoldTables goal.now (tables_before u k) watch.old.came.items
+        → AllByRecursion (WasFound goal.now u tried.now.store.now.evidence k watch.old.came.items)
+        before.old.items
+        → HoldTables goal.now (tables_before u k) watch.new.came.items) }
 {
     for number in 0..goal.count() {
         let judged = judge_next(goal, watch, tried, last, before, number)?;
@@ -402,7 +422,8 @@ fn judge_each(
 }
 
 /// What is found for all classes, class by class, where something was found before for some of them. It is looked for in the
-/// first round, where each class needs a pick.
+/// first round, where each class needs a pick. After a refusal the set of each class still has the switches that its packets
+/// come to before the round.
 fn judge_rest(
     alloc: Global,
     goal: &Goal,
@@ -412,7 +433,7 @@ fn judge_rest(
 ) -> Result<RoundVerdict, Memory>
     requires ready { IsReadyToJudge goal.now tried.now.mixes.now tried.now.store.now }
     requires came { length watch.old.came.items ≡ class_count goal.now.classes }
-    ensures { IfOk result (λ verdict. (u : Rollout) (k : ℕ)
+    ensures judged { IfOk result (λ verdict. (u : Rollout) (k : ℕ)
         → IsRoundOf goal.now.net tried.now.mixes.now u k
         → IsNextRound goal.now u tried.now.store.now.evidence k tried.now.changes.now
         → HoldTables goal.now (tables_before u k) watch.old.came.items
@@ -420,6 +441,13 @@ fn judge_rest(
         met.items
         → AreFirstJudged goal.now u tried.now.store.now.evidence k verdict
         × HoldAfter goal.now u k verdict watch.new.came.items) }
+    ensures kept { OnErr result ((u : Rollout) (k : ℕ)
+        → IsRoundOf goal.now.net tried.now.mixes.now u k
+        → IsNextRound goal.now u tried.now.store.now.evidence k tried.now.changes.now
+        → HoldTables goal.now (tables_before u k) watch.old.came.items
+        → AllByRecursion (WasFound goal.now u tried.now.store.now.evidence k watch.old.came.items)
+        met.items
+        → HoldTables goal.now (tables_before u k) watch.new.came.items) }
 {
     let mut before = met;
     before.reverse();
@@ -441,7 +469,8 @@ fn has_picks(store: &EvidenceStore) -> bool
 /// What is found for all classes while the round is carried out: first for those that a change meets, since one that is not
 /// safe is mostly among them. The others keep their certificates, once they have one. Looked at are the atoms that the changes
 /// touch. It takes a walk for each class that is met, up to the first that is not safe, and where no class has a pick yet one
-/// for each other class besides.
+/// for each other class besides. After a refusal the set of each class still has the switches that its packets come to before
+/// the round.
 pub fn judge_all(
     alloc: Global,
     goal: &Goal,
@@ -453,12 +482,17 @@ pub fn judge_all(
     requires came { length watch.old.came.items ≡ class_count goal.now.classes }
     requires atoms { HasAtoms goal.now.classes looked.now }
     requires touched { AreTouched goal.now.classes tried.now.changes.now looked.now }
-    ensures { IfOk result (λ verdict. (u : Rollout) (k : ℕ)
+    ensures judged { IfOk result (λ verdict. (u : Rollout) (k : ℕ)
         → IsRoundOf goal.now.net tried.now.mixes.now u k
         → IsNextRound goal.now u tried.now.store.now.evidence k tried.now.changes.now
         → HoldTables goal.now (tables_before u k) watch.old.came.items
         → AreJudged goal.now u tried.now.store.now.evidence k verdict
         × HoldAfter goal.now u k verdict watch.new.came.items) }
+    ensures kept { OnErr result ((u : Rollout) (k : ℕ)
+        → IsRoundOf goal.now.net tried.now.mixes.now u k
+        → IsNextRound goal.now u tried.now.store.now.evidence k tried.now.changes.now
+        → HoldTables goal.now (tables_before u k) watch.old.came.items
+        → HoldTables goal.now (tables_before u k) watch.new.came.items) }
 {
     match judge_met(alloc, goal, watch, tried, looked)? {
         RoundVerdict::Unsafe(failing) => Ok(RoundVerdict::Unsafe(failing)),
@@ -473,7 +507,8 @@ pub fn judge_all(
 
 /// What is found for all classes while the round is carried out, in the order of their numbers: the class that is not safe by
 /// any evidence is the first one. Looked at are the atoms that the changes touch. It takes a walk for each class that a change
-/// meets, up to the first that is not safe, and where no class has a pick yet one for each class.
+/// meets, up to the first that is not safe, and where no class has a pick yet one for each class. After a refusal the set of
+/// each class still has the switches that its packets come to before the round.
 pub fn judge_in_order(
     alloc: Global,
     goal: &Goal,
@@ -485,12 +520,17 @@ pub fn judge_in_order(
     requires came { length watch.old.came.items ≡ class_count goal.now.classes }
     requires atoms { HasAtoms goal.now.classes looked.now }
     requires touched { AreTouched goal.now.classes tried.now.changes.now looked.now }
-    ensures { IfOk result (λ verdict. (u : Rollout) (k : ℕ)
+    ensures judged { IfOk result (λ verdict. (u : Rollout) (k : ℕ)
         → IsRoundOf goal.now.net tried.now.mixes.now u k
         → IsNextRound goal.now u tried.now.store.now.evidence k tried.now.changes.now
         → HoldTables goal.now (tables_before u k) watch.old.came.items
         → AreFirstJudged goal.now u tried.now.store.now.evidence k verdict
         × HoldAfter goal.now u k verdict watch.new.came.items) }
+    ensures kept { OnErr result ((u : Rollout) (k : ℕ)
+        → IsRoundOf goal.now.net tried.now.mixes.now u k
+        → IsNextRound goal.now u tried.now.store.now.evidence k tried.now.changes.now
+        → HoldTables goal.now (tables_before u k) watch.old.came.items
+        → HoldTables goal.now (tables_before u k) watch.new.came.items) }
 {
     if has_picks(tried.store) {
         return judge_met(alloc, goal, watch, tried, looked);

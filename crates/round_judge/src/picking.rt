@@ -1,10 +1,10 @@
 //! The picks of a round.
-ghost use Rattle.std.specs.Prelude.{◌≡◌, ◌<◌, ◌≤◌, IfOk, OnOk};
+ghost use Rattle.std.specs.Prelude.{◌≡◌, ◌⊎◌, ◌<◌, ◌≤◌, IfOk, OnErr, OnOk};
 ghost use Rattle.std.specs.List.{AllByRecursion};
 ghost use Rattle.certificates.specs.Valid.{IsChain};
 ghost use Rattle.evidence_store.specs.Stored.{IsStored};
 ghost use Rattle.round_judge.specs.declared.judging.FoundEvidence.{FoundEvidence as FoundView};
-ghost use Rattle.round_judge.specs.Judged.{AreWithPicks};
+ghost use Rattle.round_judge.specs.Judged.{AreWithPicks, IsEmptyStore};
 
 use crate::judging::FoundEvidence;
 use evidence_store::{ClassEvidence, EvidenceStore};
@@ -33,9 +33,11 @@ fn add_picks(
     Ok(store)
 }
 
-/// Takes the store out, and leaves one of no classes in its place.
+/// Takes the store out, and leaves one of no classes in its place. After a refusal it is as before.
 fn taken_out(alloc: Global, store: &mut EvidenceStore) -> Result<EvidenceStore, Memory>
-    ensures { IfOk result (λ taken. taken ≡ store.old) }
+    ensures taken { IfOk result (λ taken. taken ≡ store.old) }
+    ensures left { OnOk result (IsEmptyStore store.new) }
+    ensures err { OnErr result (store.new ≡ store.old) }
 {
     let empty = EvidenceStore::make(alloc, 0)?;
     Ok(replace(store, empty))
@@ -52,7 +54,7 @@ fn put_back(store: &mut EvidenceStore, new: EvidenceStore)
 }
 
 /// Puts a pick more of the round into the store for each class for which new evidence was found. After a refusal the store
-/// may be empty.
+/// is as before, or it is empty and of no classes.
 pub fn put_picks(
     alloc: Global,
     store: &mut EvidenceStore,
@@ -68,6 +70,7 @@ pub fn put_picks(
     ensures classes { OnOk result (store.new.classes ≡ store.old.classes) }
     ensures stored_before { OnOk result (IsStored store.old.evidence) }
     ensures stored { OnOk result (IsStored store.new.evidence) }
+    ensures err { OnErr result ((store.new ≡ store.old) ⊎ IsEmptyStore store.new) }
 {
     store.keeps_once();
     let before = taken_out(alloc, store)?;

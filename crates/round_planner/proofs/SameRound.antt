@@ -4,6 +4,7 @@ use Rattle.net_base.proofs.MemberLaws.{each_weaker}
 use Rattle.net_base.proofs.WalkLaws.{walk_weaker}
 use Rattle.net_base.specs.declared.ids.SwitchId.{SwitchId}
 use Rattle.net_base.specs.declared.ids.Place.{Place}
+use Rattle.net_base.specs.declared.ids.Stop.{Stop}
 use Rattle.topology.specs.Networks.{switch_count}
 use Rattle.flow_rules.specs.Tables.{rules_at}
 use Rattle.flow_rules.specs.declared.rules.Rule.{Rule}
@@ -17,7 +18,7 @@ use Rattle.update_model.specs.declared.Change.{Change}
 use Rattle.update_model.proofs.RoundLaws.{settled_start}
 use Rattle.acyclic_numbering.specs.Heights.{number_of, IsHeight}
 use Rattle.waypoint_evidence.specs.Befores.{IsBeforeSet, IsGuard, IsLeastBefore}
-use Rattle.certificates.specs.Steps.{IsMixedStep, MayLeave, MayDrop}
+use Rattle.certificates.specs.Steps.{IsMixedStep, MayLeave, MayLeaveElsewhere, MayDrop}
 use Rattle.certificates.specs.Ordered.{Position, positions, IsSafe}
 use Rattle.evidence_store.specs.Found.{IsLeastEvidence}
 use Rattle.round_tables.specs.Trials.{single}
@@ -76,14 +77,25 @@ module _ (u : Rollout) (k : ℕ) (v : Rollout) (j : ℕ) (same : IsSameRound u k
     at_is = h.at_is;
   }
 
+  pub elsewhere_same : (dst : ℕ) (entry : Place) (exits : List (List Stop)) (s : SwitchId) → MayLeaveElsewhere u k dst entry exits s → MayLeaveElsewhere v j dst entry exits s
+  elsewhere_same dst entry exits s h = record {
+    place = h.place;
+    port = h.port;
+    vlan = h.vlan;
+    on_walk = on_walk_same dst entry h.place h.on_walk;
+    leaves = possible_same dst h.place (Leave h.port h.vlan) h.leaves;
+    at_is = h.at_is;
+    elsewhere = h.elsewhere;
+  }
+
   pub drop_same : (dst : ℕ) (entry : Place) → MayDrop u k dst entry → MayDrop v j dst entry
   drop_same dst entry h = record { place = h.place; on_walk = on_walk_same dst entry h.place h.on_walk; drops = possible_same dst h.place Discard h.drops }
 
 -- ---- sets and heights over the same steps
 
 module _ (edge other : SwitchId → SwitchId → Type 0) (there : (s t : SwitchId) → edge s t → other s t) (back : (s t : SwitchId) → other s t → edge s t) where
-  before_as : (start waypoint : SwitchId) (earlier : Option (List ℕ)) (set : List ℕ) → IsBeforeSet start edge waypoint earlier set → IsBeforeSet start other waypoint earlier set
-  before_as start waypoint earlier set h = record { begins = h.begins; stays = λ s t e. h.stays s t (back s t e) }
+  before_as : (start : SwitchId) (item : List SwitchId) (earlier : Option (List ℕ)) (set : List ℕ) → IsBeforeSet start edge item earlier set → IsBeforeSet start other item earlier set
+  before_as start item earlier set h = record { begins = h.begins; stays = λ s t e. h.stays s t (back s t e) }
 
   height_as : (s : SwitchId) (height : ℕ) → IsHeight edge s height → IsHeight other s height
   height_as s height h = record {
@@ -94,10 +106,10 @@ module _ (edge other : SwitchId → SwitchId → Type 0) (there : (s t : SwitchI
   }
 
 least_as : (edge other : SwitchId → SwitchId → Type 0) → ((s t : SwitchId) → edge s t → other s t) → ((s t : SwitchId) → other s t → edge s t)
-    → (start waypoint : SwitchId) (earlier : Option (List ℕ)) (set : List ℕ) → IsLeastBefore start edge waypoint earlier set → IsLeastBefore start other waypoint earlier set
-least_as edge other there back start waypoint earlier set h = record {
-  before = before_as edge other there back start waypoint earlier set h.before;
-  least = λ set2 b. h.least set2 (before_as other edge back there start waypoint earlier set2 b);
+    → (start : SwitchId) (item : List SwitchId) (earlier : Option (List ℕ)) (set : List ℕ) → IsLeastBefore start edge item earlier set → IsLeastBefore start other item earlier set
+least_as edge other there back start item earlier set h = record {
+  before = before_as edge other there back start item earlier set h.before;
+  least = λ set2 b. h.least set2 (before_as other edge back there start item earlier set2 b);
 }
 
 -- ---- evidence
@@ -110,10 +122,10 @@ module _ (u : Rollout) (k : ℕ) (v : Rollout) (j : ℕ) (same : IsSameRound u k
     back : (s t : SwitchId) → IsMixedStep v j dst entry s t → IsMixedStep u k dst entry s t
     back s t = step_same v j u k (same_back u k v j same) dst entry s t
 
-    guard_same : (p : Position) → IsGuard entry.switch (IsMixedStep u k dst entry) (MayLeave u k dst entry) p.waypoint p.earlier p.set
-        → IsGuard entry.switch (IsMixedStep v j dst entry) (MayLeave v j dst entry) p.waypoint p.earlier p.set
+    guard_same : (p : Position) → IsGuard entry.switch (IsMixedStep u k dst entry) (MayLeave u k dst entry) p.item p.earlier p.set
+        → IsGuard entry.switch (IsMixedStep v j dst entry) (MayLeave v j dst entry) p.item p.earlier p.set
     guard_same p h = record {
-      before = before_as (IsMixedStep u k dst entry) (IsMixedStep v j dst entry) there back entry.switch p.waypoint p.earlier p.set h.before;
+      before = before_as (IsMixedStep u k dst entry) (IsMixedStep v j dst entry) there back entry.switch p.item p.earlier p.set h.before;
       keeps = λ s leaves. h.keeps s (leave_same v j u k (same_back u k v j same) dst entry s leaves);
     }
 
@@ -121,6 +133,7 @@ module _ (u : Rollout) (k : ℕ) (v : Rollout) (j : ℕ) (same : IsSameRound u k
     safe_same duties numbers sets h = record {
       falls = λ s t e. h.falls s t (back s t e);
       arrives = λ must drops. h.arrives must (drop_same v j u k (same_back u k v j same) dst entry drops);
+      exits = λ s out. h.exits s (elsewhere_same v j u k (same_back u k v j same) dst entry duties.exits s out);
       guarded = record { count = h.guarded.count; guards = each_weaker _ _ guard_same (positions duties.chains sets) h.guarded.guards };
     }
 
@@ -133,7 +146,7 @@ module _ (u : Rollout) (k : ℕ) (v : Rollout) (j : ℕ) (same : IsSameRound u k
     };
     count = h.count;
     least = each_weaker _ _ (λ (p : Position). least_as (IsMixedStep u k class.first class.entry) (IsMixedStep v j class.first class.entry) (there class.first class.entry) (back class.first class.entry)
-        class.entry.switch p.waypoint p.earlier p.set) (positions duties.chains sets) h.least;
+        class.entry.switch p.item p.earlier p.set) (positions duties.chains sets) h.least;
   }
 
 -- ---- the rounds of a search

@@ -1,26 +1,28 @@
 -- What is known of a class by what was seen of its walks, or of them in the round before.
-use Rattle.std.proofs.Common.{◌≡◌, ◌⊎◌, ℕ, zero, suc, ◌<◌, ◌≤◌, Bool, true, false, List, [], ◌∷◌, length, refl, sym, subst, inl, inr, arith}
+use Rattle.std.proofs.Common.{◌≡◌, ◌⊎◌, ℕ, zero, suc, ◌<◌, ◌≤◌, Bool, true, false, List, [], ◌∷◌, length, map, refl, sym, ◌∙◌, subst, inl, inr, arith}
 use Rattle.std.specs.Prelude.{not}
 use Rattle.std.proofs.lemmas.Bool.{both_ways, false≢true}
 use Rattle.net_base.specs.Members.{IsIn}
 use Rattle.net_base.specs.Walks.{IsWalk, IsReached, end_of}
+use Rattle.net_base.specs.Places.{stop_of}
 use Rattle.net_base.specs.declared.ids.Place.{Place}
+use Rattle.net_base.specs.declared.ids.Stop.{Stop}
 use Rattle.net_base.specs.declared.ids.SwitchId.{SwitchId}
 use Rattle.net_base.proofs.WalkLaws.{reached_start, reached_more}
 use Rattle.flow_rules.specs.Tables.{rules_at}
 use Rattle.path_walk.specs.declared.Outcome.{Outcome}
 use Rattle.path_walk.specs.declared.Outcome.TheVariants.{Discard, Go}
 use Rattle.dest_classes.specs.declared.Class.{Class}
-use Rattle.demands.specs.Duties.{DemandView, PacketDuties, duties_of}
+use Rattle.demands.specs.Duties.{DemandView, PacketDuties, duties_of, lets}
 use Rattle.update_model.specs.Changes.{round_after}
 use Rattle.update_model.specs.Mixtures.{Rollout, tables_before, IsPossible, MayGo, IsMixedWalk, IsOnMixedWalk, AreGoodRounds, AreClearRounds}
 use Rattle.acyclic_numbering.specs.Heights.{IsEdge, Falls}
 use Rattle.certificates.specs.Steps.{MayLeave, switches_along}
 use Rattle.certificates.proofs.Falling.{distinct_walk}
-use Rattle.mixed_walks.specs.Walks.{WalkState, Covers, IsWalked, KeepVlansUpTo, TablesKeepVlans}
+use Rattle.mixed_walks.specs.Walks.{WalkState, Covers, IsWalked, MayLeaveBy, KeepVlansUpTo, TablesKeepVlans}
 use Rattle.class_watch.specs.Walks.{HoldsWalks, meets_any, HoldsWalksBefore}
 use Rattle.class_watch.proofs.StandLaws.{possible_next, next_held, next_outcomes}
-use Rattle.breaking_walks.specs.Breaking.{Breaks, HasBreakingWalk, MayLeaveUnmet}
+use Rattle.breaking_walks.specs.Breaking.{Breaks, HasBreakingWalk, MayLeaveBadly}
 use Rattle.breaking_walks.specs.Surveys.{NeverDrops, NeverRepeats}
 use Rattle.breaking_walks.proofs.SurveyLaws.{never_again}
 use Rattle.round_survey.specs.Gates.{AreGates, IsMetFrom}
@@ -35,6 +37,7 @@ covers_walked u k dst entry noted walked = record {
   steps = λ s t step. (walked.steps s t).1 step;
   leaving = λ s leaves. (walked.leaving s).1 leaves;
   dropping = λ s drops. (walked.dropping s).1 drops;
+  exits = λ stop leaves. (walked.exits stop).1 leaves;
 }
 
 module _ (u : Rollout) (k : ℕ) (class : Class) (noted : WalkState) (covers : Covers u k class.first class.entry noted) where
@@ -47,29 +50,31 @@ module _ (u : Rollout) (k : ℕ) (class : Class) (noted : WalkState) (covers : C
       (covers.dropping (end_of class.entry rest).switch (record { place = end_of class.entry rest; on_walk = (rest, walk, refl); drops = drops; at_is = refl }))
 
   -- what is seen where the noted walks hold those of the class
-  pub covered_seen : (seen : SurveyedWalks) → (seen.pass_once ≡ true → (numbers : List ℕ) × Falls (IsEdge noted.steps) numbers) → (seen.may_drop ≡ false → noted.dropping ≡ []) → (seen.may_leave ≡ false → noted.leaving ≡ [])
+  pub covered_seen : (seen : SurveyedWalks) → (seen.pass_once ≡ true → (numbers : List ℕ) × Falls (IsEdge noted.steps) numbers) → (seen.may_drop ≡ false → noted.dropping ≡ []) → (seen.may_leave ≡ false → noted.leaving ≡ []) → map stop_of seen.exits.now ≡ noted.exits
       → AreGates seen.gates.numbering seen.gates.set noted → IsSeen u k class seen
-  covered_seen seen have none stay gates = record {
+  covered_seen seen have none stay exits_are gates = record {
     repeats = λ on. let (numbers, lower) = have on in covered_repeats numbers lower;
     drops = λ off. covered_drops (none off);
     leaves = λ off s leaves. subst (λ (xs : List SwitchId). IsIn s xs) (stay off) (covers.leaving s leaves);
+    exits = λ stop leaves. subst (λ (xs : List Stop). IsIn stop xs) (sym exits_are) (covers.exits stop leaves);
     gates = λ s is. gate_for u k class noted covers seen.gates.numbering s (gates s is);
   }
 
 -- what is seen where it is shown besides that no switch stands twice
 pub seen_once : (u : Rollout) (k : ℕ) (class : Class) (seen : SurveyedWalks) → IsSeen u k class seen → (once : Bool) → (once ≡ true → NeverRepeats u k class.first class.entry)
-    → IsSeen u k class (record { pass_once = once; may_drop = seen.may_drop; may_leave = seen.may_leave; gates = seen.gates })
-seen_once u k class seen is once never = record { repeats = never; drops = is.drops; leaves = is.leaves; gates = is.gates }
+    → IsSeen u k class (record { pass_once = once; may_drop = seen.may_drop; may_leave = seen.may_leave; exits = seen.exits; gates = seen.gates })
+seen_once u k class seen is once never = record { repeats = never; drops = is.drops; leaves = is.leaves; exits = is.exits; gates = is.gates }
 
--- a class keeps its duties where no switch stands twice on its walks, nothing is discarded that must arrive, and none leaves or
--- each chain is one of gates
+-- a class keeps its duties where no switch stands twice on its walks, nothing is discarded that must arrive, each port by which one leaves
+-- is an exit, and none leaves or each chain is one of gates
 pub seen_keeps : (u : Rollout) (demands : List DemandView) (k : ℕ) (class : Class) (seen : SurveyedWalks) → IsSeen u k class seen → seen.pass_once ≡ true
     → (seen.may_drop ≡ false) ⊎ ((duties_of demands class.entry class.first).arrive ≡ false)
-    → (seen.may_leave ≡ false) ⊎ ((chain : List SwitchId) → IsIn chain (duties_of demands class.entry class.first).chains
+    → ((stop : Stop) → IsIn stop (map stop_of seen.exits.now) → lets (duties_of demands class.entry class.first).exits stop ≡ true)
+    → (seen.may_leave ≡ false) ⊎ ((chain : List (List SwitchId)) → IsIn chain (duties_of demands class.entry class.first).chains
     → IsMetFrom seen.gates.numbering seen.gates.set class.entry.switch chain)
     → KeepsDuties u demands k class
-seen_keeps u demands k class seen is on safe met = λ found.
-    let leaves = λ (unmet : MayLeaveUnmet u k class.first (end_of class.entry found.rest) (duties_of demands class.entry class.first).chains (switches_along class.entry found.rest)).
+seen_keeps u demands k class seen is on safe let_out met = λ found.
+    let leaves = λ (unmet : MayLeaveBadly u k class.first (end_of class.entry found.rest) (duties_of demands class.entry class.first) (switches_along class.entry found.rest)).
     let so : MayLeave u k class.first class.entry (end_of class.entry found.rest).switch = record {
       place = end_of class.entry found.rest;
       port = unmet.port;
@@ -78,13 +83,26 @@ seen_keeps u demands k class seen is on safe met = λ found.
       leaves = unmet.leaves;
       at_is = refl;
     } in so in
+    let by_port = λ (bad : MayLeaveBadly u k class.first (end_of class.entry found.rest) (duties_of demands class.entry class.first) (switches_along class.entry found.rest)).
+    let so : MayLeaveBy u k class.first class.entry (record { switch = (end_of class.entry found.rest).switch; port = bad.port }) = record {
+      place = end_of class.entry found.rest;
+      vlan = bad.vlan;
+      on_walk = (found.rest, found.walk, refl);
+      leaves = bad.leaves;
+      at_is = refl;
+    } in so in
     elim found.breaks [
       | inl again ↦ never_again u k class.first class.entry (is.repeats on) found.rest found.walk again
       | inr other ↦ elim other [
-        | inl unmet ↦ elim met [
-          | inl off ↦ is.leaves off (end_of class.entry found.rest).switch (leaves unmet)
-          | inr all ↦ unmet.misses.missed
-              (met_along_gates u k class seen.gates.numbering seen.gates.set is.gates found.rest found.walk (leaves unmet) unmet.misses.chain (all unmet.misses.chain unmet.misses.asked))
+        | inl unmet ↦ elim unmet.bad [
+          | inl elsewhere ↦ (
+              let stop : Stop = record { switch = (end_of class.entry found.rest).switch; port = unmet.port } in
+              false≢true (sym elsewhere ∙ let_out stop (is.exits stop (by_port unmet))))
+          | inr misses ↦ elim met [
+            | inl off ↦ is.leaves off (end_of class.entry found.rest).switch (leaves unmet)
+            | inr all ↦ misses.missed
+                (met_along_gates u k class seen.gates.numbering seen.gates.set is.gates found.rest found.walk (leaves unmet) misses.chain (all misses.chain misses.asked))
+          ]
         ]
         | inr drops ↦ elim safe [
           | inl off ↦ is.drops off found.rest found.walk drops.1
@@ -119,7 +137,7 @@ module _ (u : Rollout) (good : AreGoodRounds u) (clear : AreClearRounds u) (keep
     port = unmet.port;
     vlan = unmet.vlan;
     leaves = was_possible (end_of class.entry rest) (rest, walk, refl) _ unmet.leaves;
-    misses = unmet.misses;
+    bad = unmet.bad;
   }))
   breaks_before duties rest walk (inr (inr drops)) = inr (inr (drops.0, was_possible (end_of class.entry rest) (rest, walk, refl) Discard drops.1))
 

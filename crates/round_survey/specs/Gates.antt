@@ -34,12 +34,14 @@ pub record IsGateFor (u : Rollout) (k : ℕ) (class : Class) (numbers : List ℕ
   pub steps : (s t : SwitchId) → IsMixedStep u k class.first class.entry s t → StaysAbove numbers gate s t
   pub leaving : (s : SwitchId) → MayLeave u k class.first class.entry s → ¬ IsLower numbers s gate
 
--- each switch of a chain is a gate of the set and has a lower number than the one before it, the first than this one
-abbrev pub AreBelow : List ℕ → ℕ → SwitchId → List SwitchId → Type 0
+-- each item of a chain has a gate of the set with a lower number than that of the one before it, the first than this one
+abbrev pub AreBelow : List ℕ → ℕ → SwitchId → List (List SwitchId) → Type 0
 AreBelow numbers set s [] = Unit {0}
-AreBelow numbers set s (gate ∷ chain) = IsTrue (has set gate) × IsLower numbers s gate × AreBelow numbers set gate chain
+AreBelow numbers set s (item ∷ chain) =
+    (gate : SwitchId) × IsIn gate item × IsTrue (has set gate) × IsLower numbers s gate × AreBelow numbers set gate chain
 
--- so from an entry on, which may be the first of the chain itself
-abbrev pub IsMetFrom : List ℕ → ℕ → SwitchId → List SwitchId → Type 0
+-- so from an entry on, which may be in the first item of the chain itself
+abbrev pub IsMetFrom : List ℕ → ℕ → SwitchId → List (List SwitchId) → Type 0
 IsMetFrom numbers set entry chain =
-    AreBelow numbers set entry chain ⊎ ((rest : List SwitchId) × (chain ≡ entry ∷ rest) × AreBelow numbers set entry rest)
+    AreBelow numbers set entry chain
+    ⊎ ((item : List SwitchId) × (rest : List (List SwitchId)) × (chain ≡ item ∷ rest) × IsIn entry item × AreBelow numbers set entry rest)

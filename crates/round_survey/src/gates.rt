@@ -1,5 +1,6 @@
 //! Switches on walks that packets can't go round.
-ghost use Rattle.std.specs.Prelude.{◌≡◌, ◌↔◌, ◌<◌, ◌≤◌, ◌∷◌, true, drop, length, IsTrue, All, IfOk};
+ghost use Rattle.std.specs.Prelude.{◌≡◌, ◌↔◌, ◌<◌, ◌≤◌, true, drop, length, slice_get, IsSomeAnd, IsTrue, All, IfOk, IfSome};
+ghost use Rattle.net_base.specs.Members.{IsIn};
 ghost use Rattle.net_base.specs.Switches.{has, most_switches};
 ghost use Rattle.acyclic_numbering.specs.Heights.{IsLower, number_of};
 ghost use Rattle.mixed_walks.specs.Walks.{WalkState};
@@ -7,7 +8,7 @@ ghost use Rattle.round_survey.specs.Gates.{AreStepsOf, StaysAbove, IsGate, AreGa
 
 use acyclic_numbering::{Edge, Numbered, Numbering, number};
 use mixed_walks::WalkRoom;
-use net_base::{Memory, SwitchId, SwitchSet};
+use net_base::{Memory, SwitchGroup, SwitchId, SwitchSet};
 use std::alloc::Global;
 use topology::Net;
 
@@ -133,48 +134,65 @@ fn is_next(gates: &Gates, from: SwitchId, switch: SwitchId) -> bool
     gates.set.has(switch) && is_lower(gates.numbering.list(), from, switch)
 }
 
-/// Whether each switch of a chain is a gate and has a lower number than the one before it, the first than this one.
-fn are_below(gates: &Gates, from: SwitchId, chain: &[SwitchId]) -> bool
+/// The first gate of an item that has a lower number than a switch.
+fn next_gate(gates: &Gates, from: SwitchId, item: &SwitchGroup) -> Option<SwitchId>
+    ensures among { IfSome result (λ gate. IsIn gate item.now) }
+    ensures gate { IfSome result (λ gate. IsTrue (has gates.now.set gate)) }
+    ensures lower { IfSome result (λ gate. IsLower gates.now.numbering from gate) }
+{
+    for switch in item.list() {
+        if is_next(gates, from, *switch) {
+            return Some(*switch);
+        }
+    }
+    None
+}
+
+/// Whether each item of a chain has a gate with a lower number than the one that was taken for the item before it, the first than
+/// this switch. For each item the first such gate is taken.
+fn are_below(gates: &Gates, from: SwitchId, chain: &[SwitchGroup]) -> bool
     ensures { result ≡ true → AreBelow gates.now.numbering gates.now.set from chain.now }
 {
     let mut last = from;
-    for switch in chain {
-        if !is_next(gates, last, *switch) {
-            return false;
+    for item in chain {
+        match next_gate(gates, last, item) {
+            Some(gate) => last = gate,
+            None => return false,
         }
-        last = *switch;
     }
     true
 }
 
-/// Whether a chain begins with a switch.
-fn begins_with(chain: &[SwitchId], switch: SwitchId) -> bool
-    ensures { result ≡ true → chain.now ≡ switch ∷ drop 1 chain.now }
+/// Whether the first item of a chain has a switch.
+fn begins_with(chain: &[SwitchGroup], switch: SwitchId) -> bool
+    ensures some { result ≡ true → 1 ≤ length chain.now }
+    ensures first { result ≡ true → IsSomeAnd (slice_get chain.now 0) (λ item. IsIn switch item) }
 {
     match chain {
         [] => false,
-        [first, ..] => first.0 == switch.0,
+        [first, ..] => first.has(switch),
     }
 }
 
-/// A chain without its first switch.
-fn behind_first(chain: &[SwitchId]) -> &[SwitchId]
+/// A chain without its first item.
+fn behind_first(chain: &[SwitchGroup]) -> &[SwitchGroup]
     requires { 1 ≤ length chain.now }
     ensures { result.now ≡ drop 1 chain.now }
 {
     &chain[1..]
 }
 
-/// Whether the rest of a chain is met that begins with the entry.
-fn is_met_behind(gates: &Gates, entry: SwitchId, chain: &[SwitchId]) -> bool
-    requires { chain.now ≡ entry ∷ drop 1 chain.now }
+/// Whether the rest of a chain is met whose first item the entry meets.
+fn is_met_behind(gates: &Gates, entry: SwitchId, chain: &[SwitchGroup]) -> bool
+    requires some { 1 ≤ length chain.now }
+    requires first { IsSomeAnd (slice_get chain.now 0) (λ item. IsIn entry item) }
     ensures { result ≡ true → IsMetFrom gates.now.numbering gates.now.set entry chain.now }
 {
     are_below(gates, entry, behind_first(chain))
 }
 
-/// Whether packets from an entry meet a chain before they leave, since its switches are gates.
-pub(crate) fn is_met(gates: &Gates, entry: SwitchId, chain: &[SwitchId]) -> bool
+/// Whether packets from an entry meet a chain before they leave, since each of its items has a gate.
+pub(crate) fn is_met(gates: &Gates, entry: SwitchId, chain: &[SwitchGroup]) -> bool
     ensures { result ≡ true → IsMetFrom gates.now.numbering gates.now.set entry chain.now }
 {
     if begins_with(chain, entry) {

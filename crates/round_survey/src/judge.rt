@@ -27,7 +27,7 @@ pub(crate) struct SurveyJudge<'a> {
 /// Passes a class that keeps its duties by what was seen of them all, or takes it out. The answer is the place of the next one.
 fn keep_at(
     members: &mut Vec<NumberedClass>,
-    seen: &SurveyedWalks,
+    seen: &SurveyedWalks<'_>,
     duties: &Duties,
     place: usize,
 ) -> usize
@@ -48,7 +48,7 @@ fn keep_at(
 }
 
 /// Leaves those of the classes that keep their duties by what was seen of them all.
-fn keep_good(members: &mut Vec<NumberedClass>, seen: &SurveyedWalks, duties: &Duties)
+fn keep_good(members: &mut Vec<NumberedClass>, seen: &SurveyedWalks<'_>, duties: &Duties)
     requires { (m : NumberedClass) → IsIn m members.old.items → IsNumbered duties.now.classes m }
     ensures left { (m : NumberedClass) → IsIn m members.new.items → IsIn m members.old.items }
     ensures keep { KeepFirst seen.now duties.now.demands (length members.new.items)
@@ -82,6 +82,10 @@ impl<'a> ClassJudge for SurveyJudge<'a> {
     fn keeps_held(&self) {}
 
     fn can_stand(&self, _numbered: NumberedClass) -> bool {
+        self.round.number > 0
+    }
+
+    fn can_all_stand(&self) -> bool {
         self.round.number > 0
     }
 

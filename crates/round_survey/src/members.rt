@@ -33,13 +33,13 @@ pub(crate) fn have_chains(members: &[NumberedClass], duties: &Duties) -> bool
 
 /// What is seen of each of these classes, which were walked last: that their walks pass each switch once also by the steps
 /// between places, which are looked at only where there are cycles of switches.
-pub(crate) fn see_members(
+pub(crate) fn see_members<'a>(
     alloc: Global,
     round: PreparedRound<'_>,
-    walk: &WalkRoom,
+    walk: &'a WalkRoom,
     members: &[NumberedClass],
     wants_gates: bool,
-) -> Result<SurveyedWalks, Memory>
+) -> Result<SurveyedWalks<'a>, Memory>
     requires round { IsPreparedRound round }
     requires entries { (m : NumberedClassOf) → IsIn m members.now
         → IsUsed round.net.now (stop_of m.class.entry) }

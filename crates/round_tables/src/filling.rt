@@ -7,7 +7,7 @@ ghost use Rattle.update_model.specs.Changes.{IsGoodRound, switch_of, tables_afte
 ghost use Rattle.update_model.specs.declared.Change.{Change as ChangeOf};
 ghost use Rattle.round_tables.specs.PreparedTables.{mix_at};
 ghost use Rattle.round_tables.specs.Steps.{AreMixed, AreSwitchesReady, IsBegun};
-ghost use Rattle.round_tables.specs.Filling.{AreTakenChanges, FitTables};
+ghost use Rattle.round_tables.specs.Filling.{AreSomeMade, AreTakenChanges, FitTables};
 
 use crate::prepared::PreparedTables;
 use crate::steps::make_change;
@@ -18,7 +18,8 @@ use std::alloc::Global;
 use topology::Net;
 use update_model::Change;
 
-/// Makes the changes of a round, for which the switches are prepared, in its order. After a refusal some may be made.
+/// Makes the changes of a round, for which the switches are prepared, in its order. After a refusal so many of the first are
+/// made, and the switches are prepared for the others.
 fn make_all(tables: &mut Config, mixes: &mut [Mixed], round: &[Change]) -> Result<(), Memory>
     requires good { IsGoodRound (rules_of_all tables.old) round.now }
     requires mixes { length tables.old ≡ length mixes.old }
@@ -27,6 +28,8 @@ fn make_all(tables: &mut Config, mixes: &mut [Mixed], round: &[Change]) -> Resul
         (rules_of_all tables.new ≡ tables_after round.now (rules_of_all tables.old)) }
     ensures alone { OnOk result
         (AreMixed (length mixes.old) (rules_of_all tables.new) [] mixes.new) }
+    ensures part { OnErr result (AreSomeMade (length mixes.old) round.now
+        (rules_of_all tables.old) (rules_of_all tables.new) mixes.new) }
     ensures room { (s : Switch) → (mix_at mixes.old s).room ≤ (mix_at mixes.new s).room }
 {
     for change in round {
@@ -128,13 +131,17 @@ impl PreparedTables {
     }
 
     /// Makes the changes that are taken in the tables, and begins the next round. It looks at each rule of a switch once for
-    /// each change there, and sorts nothing. After a refusal the tables and the round are lost.
+    /// each change there, and sorts nothing. After a refusal so many of the first changes are made in the tables, the switches
+    /// are prepared for the others, and the same changes are taken: such tables take no more of them.
     pub fn make_round(&mut self, net: &Net) -> Result<(), Memory>
         requires { AreTakenChanges net.now self.old }
         ensures rules { OnOk result (rules_of_all self.new.tables
             ≡ tables_after self.old.round (rules_of_all self.old.tables)) }
         ensures none { OnOk result (self.new.round ≡ []) }
         ensures stands { OnOk result (AreTakenChanges net.now self.new) }
+        ensures part { OnErr result (AreSomeMade (switch_count net.now) self.old.round
+            (rules_of_all self.old.tables) (rules_of_all self.new.tables) self.new.mixes) }
+        ensures same { OnErr result (self.new.round ≡ self.old.round) }
     {
         net.keeps_rules();
         make_all(&mut self.tables, &mut self.mixes, &self.round)?;

@@ -5,6 +5,5 @@ pub mod Spelled
 pub mod StateRanges
 pub mod PlacedLaws
 pub mod ReadBackLaws
-pub mod BothWaysLaws
 pub mod TabledLaws
 pub mod TurnsNothingLaws

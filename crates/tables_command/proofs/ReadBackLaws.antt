@@ -20,7 +20,8 @@ use Rattle.plan_text.specs.TablesText.{tables_tree, tables_text}
 use Rattle.plan_text.proofs.ChangesAgain.{IsInRange, rules_again}
 use Rattle.tables_command.specs.Tabled.{TablesMeaning, tables_rollout, end_course}
 use Rattle.tables_command.specs.ReadBack.{MeansTables}
-use Rattle.tables_command.specs.Listed.{placed_rules, pending_in, tables_of, IsReadAsLast}
+use Rattle.law_courses.specs.Pending.{pending_in}
+use Rattle.tables_command.specs.Listed.{placed_rules, tables_of, IsReadAsLast}
 use Rattle.tables_command.proofs.PlacedLaws.{placed_at}
 use Rattle.tables_command.proofs.ReadAgain.{round_again}
 use Rattle.tables_command.proofs.Sound.{text_again}

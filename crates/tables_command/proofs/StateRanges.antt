@@ -40,8 +40,9 @@ use Rattle.two_way_replay.specs.Entries.{with_entry, tables_with_entry, action_n
 use Rattle.two_way_replay.specs.declared.schedule.TwoWayStep.{TwoWayStep}
 use Rattle.two_way_replay.specs.declared.schedule.TwoWayStep.TheVariants as step
 use Rattle.plan_text.proofs.ChangesAgain.{IsInRange}
-use Rattle.tables_command.specs.Listed.{placed_rule, placed_from, flagged_changes, neither, pending_in}
-use Rattle.tables_command.proofs.ListedLaws.{inverse_length, inverse_more}
+use Rattle.law_courses.specs.Pending.{flagged_changes, neither, pending_in}
+use Rattle.tables_command.specs.Listed.{placed_rule, placed_from}
+use Rattle.law_courses.proofs.PendingLaws.{inverse_length, inverse_more}
 
 -- ---- lists
 

@@ -23,7 +23,8 @@ use Rattle.command_base.specs.Runs.{IsComplete, Answered}
 use Rattle.command_base.proofs.RunLaws.{settled_done, settled_not_a_run}
 use Rattle.replay_command.specs.Names.{ReplayNames}
 use Rattle.replay_command.specs.Replayed.{ReplayMeaning, FilesMeanReplay, FirstStopsAt, replay_rollout, end_state}
-use Rattle.tables_command.specs.Listed.{placed_rules, IsTablesAnswer, tables_of, tables_of_run, flagged_changes, neither, pending_in, pending_inverses, unmade_changes}
+use Rattle.law_courses.specs.Pending.{flagged_changes, neither, pending_in, pending_inverses, unmade_changes}
+use Rattle.tables_command.specs.Listed.{placed_rules, IsTablesAnswer, tables_of, tables_of_run}
 use Rattle.tables_command.specs.Promise.{TurnsNothing}
 use Rattle.tables_command.specs.Tabled.{TablesMeaning, tables_dialogue, FirstStopsAtStep, FilesMeanTables}
 use Rattle.tables_command.proofs.TabledLaws.{done_run, run_done, stopped, stops_run, no_course, written_of, line_of, next_step}

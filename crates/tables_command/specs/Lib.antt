@@ -1,5 +1,4 @@
 pub mod Tabled
 pub mod ReadBack
 pub mod Listed
-pub mod BothWays
 pub mod Promise

@@ -5,7 +5,8 @@ ghost use Rattle.update_model.specs.Mixtures.{tables_before};
 ghost use Rattle.update_model.specs.States.{settled_count};
 ghost use Rattle.update_model.specs.Worlds.{running_round};
 ghost use Rattle.law_two_way_runs.specs.Inverse.{inverse_round};
-ghost use Rattle.tables_command.specs.Listed.{placed_rule, placed_rules, flagged_changes, neither, pending_inverses, pending_in};
+ghost use Rattle.law_courses.specs.Pending.{flagged_changes, neither, pending_inverses, pending_in};
+ghost use Rattle.tables_command.specs.Listed.{placed_rule, placed_rules};
 
 use flow_rules::Rule;
 use net_base::{Memory, SwitchId};

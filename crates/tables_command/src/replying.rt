@@ -6,7 +6,8 @@ ghost use Rattle.path_walk.specs.UserConfigs.{IsUserConfig};
 ghost use Rattle.certificates.specs.Valid.{IsValidPlan};
 ghost use Rattle.plan_text.specs.TablesText.{tables_text};
 ghost use Rattle.command_base.specs.Replies.{answer_of};
-ghost use Rattle.tables_command.specs.Listed.{placed_rules, pending_in, tables_of, IsReadAsLast, IsTablesAnswer};
+ghost use Rattle.law_courses.specs.Pending.{pending_in};
+ghost use Rattle.tables_command.specs.Listed.{placed_rules, tables_of, IsReadAsLast, IsTablesAnswer};
 ghost use Rattle.tables_command.specs.Tabled.{meaning_of};
 
 use crate::files::TablesFiles;

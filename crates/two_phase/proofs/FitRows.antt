@@ -1,6 +1,6 @@
 -- The premises are met: the net of five switches, its two configurations, and room for the two-phase plan.
 use Rattle.std.proofs.Common.{◌≡◌, ℕ, zero, suc, ◌<◌, ◌≤◌, ◌+◌, ◌*◌, Bool, true, false, List, [], ◌∷◌, map, length, refl, sym, ◌∙◌, subst, ap, inl, inr, arith}
-use Rattle.std.specs.Prelude.{◌==◌, ◌&&◌, not, filter, Some}
+use Rattle.std.specs.Prelude.{◌==◌, ◌&&◌, not, filter, Some, None}
 use Rattle.std.specs.List.{AllByRecursion, list_any}
 use Rattle.std.proofs.lemmas.Bool.{and_parts, both_ways, eq-eqb, not-true, cond_both}
 use Rattle.net_base.specs.Blocks.{IsBlock}
@@ -145,7 +145,7 @@ fits = record { tags = omega arith; room = λ s inside. within s.0 inside }
 
 -- what enters at s for P must pass w and arrive
 abbrev demands : List DemandView
-demands = record { from = Some (stop 0 1 ∷ []); vlan = test.Any; dst = P; through = sw 2 ∷ []; deliver = true } ∷ []
+demands = record { from = Some (stop 0 1 ∷ []); vlan = test.Any; dst = P; through = (sw 2 ∷ []) ∷ []; deliver = true; exits = None } ∷ []
 
 abbrev classes : ClassList
 classes = classes_for (two_phase_task net_L L_old L_new demands)
@@ -154,7 +154,7 @@ dropped : (tables : List (List Rule)) (entry : Place) (dst : ℕ) → outcome_in
 dropped tables entry dst out off = record {
   trace = record { stops = stop_of entry ∷ []; ended = Dropped entry.switch };
   path = record { rest = []; walk = tt; stops = refl; ended = sym (ap (ended_by entry) out); ends = tt };
-  good = record { distinct = (λ i. i, tt); chains = tt; arrives = λ must _. both_ways (duties_of demands entry dst).arrive off must };
+  good = record { distinct = (λ i. i, tt); chains = tt; arrives = λ must _. both_ways (duties_of demands entry dst).arrive off must; exits = tt };
 }
 
 old_path : HasGoodPath net_L L_old demands (place 0 1) 167772160
@@ -163,8 +163,9 @@ old_path = record {
   path = record { rest = place 1 1 ∷ place 2 1 ∷ place 3 1 ∷ place 4 1 ∷ []; walk = (refl, (refl, (refl, (refl, tt)))); stops = refl; ended = refl; ends = tt };
   good = record {
     distinct = distinct_members (λ s. s.0) (sw 0 ∷ sw 1 ∷ sw 2 ∷ sw 3 ∷ sw 4 ∷ []) (apart_distinct (0 ∷ 1 ∷ 2 ∷ 3 ∷ 4 ∷ []) refl);
-    chains = (inr (inr (inl (refl, tt))), tt);
+    chains = (inr (inr (inl (inl refl, tt))), tt);
     arrives = λ _ d. d;
+    exits = refl;
   };
 }
 
@@ -174,8 +175,9 @@ new_path = record {
   path = record { rest = place 3 3 ∷ place 2 2 ∷ place 1 2 ∷ place 4 2 ∷ []; walk = (refl, (refl, (refl, (refl, tt)))); stops = refl; ended = refl; ends = tt };
   good = record {
     distinct = distinct_members (λ s. s.0) (sw 0 ∷ sw 3 ∷ sw 2 ∷ sw 1 ∷ sw 4 ∷ []) (apart_distinct (0 ∷ 3 ∷ 2 ∷ 1 ∷ 4 ∷ []) refl);
-    chains = (inr (inr (inl (refl, tt))), tt);
+    chains = (inr (inr (inl (inl refl, tt))), tt);
     arrives = λ _ d. d;
+    exits = refl;
   };
 }
 

@@ -144,12 +144,12 @@ missed : outcome_in net_L L_new (place 0 1) 0 ≡ Discard
 missed = refl
 
 abbrev through_x_y : DemandView
-through_x_y = record { from = Some (stop 0 1 ∷ []); vlan = test.Any; dst = P; through = sw 1 ∷ sw 3 ∷ sw 1 ∷ []; deliver = true }
+through_x_y = record { from = Some (stop 0 1 ∷ []); vlan = test.Any; dst = P; through = (sw 1 ∷ []) ∷ (sw 3 ∷ []) ∷ (sw 1 ∷ []) ∷ []; deliver = true; exits = None }
 
-one_chain : duties_of (through_x_y ∷ through_x_y ∷ []) (place 0 1) 167772160 ≡ record { chains = (sw 1 ∷ sw 3 ∷ []) ∷ []; arrive = true }
+one_chain : duties_of (through_x_y ∷ through_x_y ∷ []) (place 0 1) 167772160 ≡ record { chains = ((sw 1 ∷ []) ∷ (sw 3 ∷ []) ∷ []) ∷ []; arrive = true; exits = [] }
 one_chain = refl
 
-no_chain : duties_of (through_x_y ∷ []) (place 4 3) 167772160 ≡ record { chains = []; arrive = false }
+no_chain : duties_of (through_x_y ∷ []) (place 4 3) 167772160 ≡ record { chains = []; arrive = false; exits = [] }
 no_chain = refl
 
 -- a switch with two hosts, a rule that drops and one that is replaced by one of a higher priority in the same round

@@ -19,7 +19,7 @@ use Rattle.certificates.specs.Valid.{IsValidEvidence}
 use Rattle.certificates.specs.declared.Evidence.{Evidence}
 use Rattle.certificates.specs.declared.Evidence.TheVariants.{TwoPhase}
 use Rattle.two_phase_check.specs.InForce.{IsGoodTable, IsTableInForceAt}
-use Rattle.check_reasons.specs.Ranks.{IsBefore, rank_of, round_of, number_of, least_class_number, classes_start}
+use Rattle.check_reasons.specs.Ranks.{IsBefore, rank_of, round_of, precedence_of, least_class_number, classes_start}
 use Rattle.check_reasons.specs.Reasons.{IsTableInForce, IsTwoPhaseReason, bad_labels, mixed_path}
 use Rattle.check_reasons.specs.Passed.{IsFirstFrom, ClassesPass}
 use Rattle.check_reasons.proofs.RankLaws.{first_of_classes}
@@ -68,7 +68,7 @@ module _ (t : Task) (e : TwoPhaseEvidence) (k : ℕ) (in_range : k < length t.ro
     first = first_of_classes t (TwoPhase e) k (rank_of 0 (BadLabels (suc k))) refl refl none_earlier;
   }
     where
-      none_earlier : (i : ℕ) (r : Reason) → IsTwoPhaseReason t e i r → round_of r ≡ suc k → least_class_number ≤ number_of r → ¬ IsBefore (rank_of i r) (rank_of 0 (BadLabels (suc k)))
+      none_earlier : (i : ℕ) (r : Reason) → IsTwoPhaseReason t e i r → round_of r ≡ suc k → least_class_number ≤ precedence_of r → ¬ IsBefore (rank_of i r) (rank_of 0 (BadLabels (suc k)))
       none_earlier i r (bad_labels j m other judged absent) round number before = omega arith
       none_earlier i r (mixed_path j m other tables s judged force how) round number before = omega arith
 
@@ -90,7 +90,7 @@ module _ (t : Task) (e : TwoPhaseEvidence) (k : ℕ) (in_range : k < length t.ro
               is.is_mixed.least.least s (subst (λ x. MixesAt t k x labels s) one here),
         )
 
-        none_earlier : (i : ℕ) (r : Reason) → IsTwoPhaseReason t e i r → round_of r ≡ suc k → least_class_number ≤ number_of r → ¬ IsBefore (rank_of i r) (rank_of 0 (MixedPath (suc k) mixed.class mixed.switch))
+        none_earlier : (i : ℕ) (r : Reason) → IsTwoPhaseReason t e i r → round_of r ≡ suc k → least_class_number ≤ precedence_of r → ¬ IsBefore (rank_of i r) (rank_of 0 (MixedPath (suc k) mixed.class mixed.switch))
         none_earlier i r (bad_labels j m other judged absent) round number before =
             let same : j ≡ k = omega arith in
             subst (λ x. (tables : List Label) → ¬ IsTableInForce t e x tables) same absent labels in_force

@@ -1,27 +1,29 @@
 -- What every call keeps: something of each switch, and a stage of the rounds.
-use Rattle.std.proofs.Common.{◌≡◌, ℕ, zero, suc, ◌+◌, ◌<◌, ◌≤◌, true, false, cond, eqb, List, [], ◌∷◌, ◌++◌, length, set, refl, sym, ap, ◌∙◌, length-set, drop, drop-cons, add-one, get_or, arith}
+use Rattle.std.proofs.Common.{◌≡◌, ℕ, zero, suc, ◌+◌, ◌<◌, ◌≤◌, true, false, cond, eqb, List, [], ◌∷◌, ◌++◌, length, set, refl, sym, ap, ◌∙◌, length-set, get_or, get_or-set_same, set-set, take, arith}
 use Rattle.std.specs.Prelude.{Option, Some, None, is_some, slice_index_or}
 use Rattle.std.specs.Option.{option_map_or}
 use Rattle.std.proofs.lemmas.Bool.{cond-true, cond_both, eq-eqb}
-use Rattle.std.proofs.lemmas.List.{length-replicate, length-map}
+use Rattle.std.proofs.lemmas.List.{length-replicate, length-map, take_more}
 use Rattle.net_base.specs.declared.ids.SwitchId.{SwitchId}
 use Rattle.topology.specs.Networks.{Network, switch_count}
 use Rattle.update_model.specs.Changes.{round_after}
 use Rattle.update_model.specs.declared.Change.{Change}
 use Rattle.round_messages.specs.Requests.{is_changed, switch_numbered}
-use Rattle.switch_session.specs.Channels.{after_byte}
+use Rattle.switch_session.specs.Channels.{hello, after_byte}
 use Rattle.turned_rounds.specs.Batches.{next_if}
 use Rattle.two_way_driver.specs.PeerStates.{PeerState}
-use Rattle.two_way_driver.specs.Peers.{heard_by, peer_after, answers, dead_peer, settled_peer}
-use Rattle.two_way_driver.specs.Drivers.{DriverState, peer_at, with_peer, with_said, asked_from, sent_out, settled_in, all_answered, settled_if_answered, undo_notes, is_change_at, made_state, undone_state, carried_out, answered_state, sent_again, opened_state, running_round, asked_round, heard_state, heard_byte, fed_byte, state_after_bytes, flagged_state, started_with, undone_with, turned_with, start_fault_in, started_in, turned_in, dead_driver}
-use Rattle.two_way_driver.specs.Calls.{AreTurnable, DriverView, with_state, IsStageWithin, IsServing, start_fault, started_view, turned_view, fed_view, dead_view}
+use Rattle.two_way_driver.specs.Peers.{first_peer, heard_by, peer_after, answers, dead_peer, settled_peer, reopened_peer}
+use Rattle.two_way_driver.specs.Drivers.{DriverState, peer_at, with_peer, with_said, asked_from, sent_out, settled_in, all_answered, settled_if_answered, undo_notes, is_change_at, made_state, undone_state, carried_out, answered_state, sent_again, opened_state, running_round, asked_round, heard_state, heard_byte, fed_byte, state_after_bytes, flagged_state, started_with, undone_with, turned_with, start_fault_in, started_in, turned_in, reopened_driver, dead_driver}
+use Rattle.two_way_driver.specs.Calls.{AreTurnable, DriverView, with_state, IsStageWithin, IsServing, start_fault, started_view, turned_view, fed_view, reopened_view, dead_view}
 use Rattle.two_way_driver.specs.Inside.{heard_on, fed_on}
 use Rattle.two_way_driver.specs.declared.legs.Leg.{Leg}
 use Rattle.two_way_driver.specs.declared.Stage.{Stage}
 use Rattle.two_way_driver.specs.declared.Stage.TheVariants.{Settled, Onward, Undone}
 use Rattle.two_way_driver.specs.declared.peers.ByteOutcome.{ByteOutcome}
 use Rattle.two_way_driver.specs.declared.peers.ByteOutcome.TheVariants.{Nothing, Opened, Answered, Replied, Broke}
+use Rattle.two_way_driver.specs.declared.DriverOutput.TheVariants.{Send}
 use Rattle.two_way_driver.specs.declared.faults.CallFault.TheVariants as fault
+use Rattle.two_way_driver.proofs.StepLaws.{get_or_other}
 
 pub length-asked : (x : ℕ) (round : List Change) (n : ℕ) (peers : List PeerState) → length (asked_from x round n peers) ≡ length peers
 length-asked x round n [] = refl
@@ -93,6 +95,9 @@ module _ (net : Network) (rounds inverses : List (List Change)) (count : ℕ) wh
       cond_both before.is_dead d (heard_byte net rounds inverses s b d) IsKept (λ _. h)
       (λ _. kept_heard s (heard_by before.channel (after_byte b before.channel)) (with_peer s (peer_after b before) d) (kept_peer s (peer_after b before) d h))
 
+  pub kept_reopened : (s : SwitchId) (d : DriverState) → IsKept d → IsKept (reopened_driver s d)
+  kept_reopened s d h = record { peers = length-set d.peers s.0 (reopened_peer (peer_at d s)) ∙ h.peers; flags = h.flags; stage = h.stage }
+
   pub kept_dead : (s : SwitchId) (d : DriverState) → IsKept d → IsKept (dead_driver rounds s d)
   kept_dead s d h =
       let e = with_peer s (dead_peer (peer_at d s)) d in
@@ -151,11 +156,29 @@ serving_turned v h = serving_of v (turned_in v.net v.rounds v.inverses v.state.s
 pub serving_fed : (s : SwitchId) (bytes : List ℕ) (v : DriverView) → IsServing v → IsServing (fed_view s bytes v)
 serving_fed s bytes v h = serving_of v (state_after_bytes v.net v.rounds v.inverses s bytes v.state) h.turnable (kept_fed v.net v.rounds v.inverses (switch_count v.net) s bytes v.state (kept_of v h))
 
+pub serving_reopened : (s : SwitchId) (v : DriverView) → IsServing v → IsServing (reopened_view s v)
+serving_reopened s v h = serving_of v (reopened_driver s v.state) h.turnable (kept_reopened v.net v.rounds v.inverses (switch_count v.net) s v.state (kept_of v h))
+
 pub serving_dead : (s : SwitchId) (v : DriverView) → IsServing v → IsServing (dead_view s v)
 serving_dead s v h = serving_of v (dead_driver v.rounds s v.state) h.turnable (kept_dead v.net v.rounds v.inverses (switch_count v.net) s v.state (kept_of v h))
 
 pub serving_byte : (s : SwitchId) (b : ℕ) (v : DriverView) → IsServing v → IsServing (fed_view s (b ∷ []) v)
 serving_byte s b v h = serving_fed s (b ∷ []) v h
+
+-- ---- sessions that are opened again
+
+-- what a byte changes is forgotten then
+pub reopened_behind : (b : ℕ) (p : PeerState) → reopened_peer (peer_after b p) ≡ reopened_peer p
+unfolding peer_after
+reopened_behind b p = refl
+
+-- so it makes no difference what was kept of the session
+pub reopened_same : (s : SwitchId) (old p : PeerState) (d : DriverState) → s.0 < length d.peers → old ≡ get_or d.peers s.0 old → reopened_peer p ≡ reopened_peer old
+    → reopened_driver s (with_peer s p d) ≡ reopened_driver s d
+reopened_same s old p d within at same =
+    ap (λ (q : PeerState). with_said (Send s hello ∷ []) (with_peer s (reopened_peer q) (with_peer s p d))) (get_or-set_same d.peers s.0 p first_peer within)
+    ∙ ap (λ (ps : List PeerState). with_said (Send s hello ∷ []) (record d { peers = ps })) (set-set d.peers s.0 p (reopened_peer p))
+    ∙ ap (λ (q : PeerState). with_said (Send s hello ∷ []) (with_peer s q d)) (same ∙ ap reopened_peer (at ∙ get_or_other d.peers s.0 old first_peer within))
 
 -- ---- bytes, one after the other
 
@@ -175,11 +198,15 @@ module _ (leg : Leg) (net : Network) (rounds inverses : List (List Change)) (s :
       let before = peer_at d s in
       ap (λ e. cond before.is_dead d e) (heard_on_is (heard_by before.channel (after_byte b before.channel)) (with_peer s (peer_after b before) d) same round asked)
 
-pub fed_step : (s : SwitchId) (bytes : List ℕ) (n : ℕ) (now next whole : DriverView) → n < length bytes
-    → next ≡ with_state (fed_byte now.net now.rounds now.inverses s (get_or bytes n 0) now.state) now → fed_view s (drop n bytes) now ≡ whole → fed_view s (drop (n + 1) bytes) next ≡ whole
-fed_step s bytes n now next whole less is so_far =
-    ap (fed_view s (drop (n + 1) bytes)) is ∙ ap (λ k. fed_view s (get_or bytes n 0 ∷ drop k bytes) now) (add-one n) ∙ ap (λ l. fed_view s l now) (sym (drop-cons bytes n 0 less)) ∙ so_far
-
 pub fed-append : (s : SwitchId) (a b : List ℕ) (v : DriverView) → fed_view s (a ++ b) v ≡ fed_view s b (fed_view s a v)
 fed-append s [] b v = refl
 fed-append s (x ∷ a) b v = fed-append s a b (with_state (fed_byte v.net v.rounds v.inverses s x v.state) v)
+
+-- one byte more
+pub fed_next : (s : SwitchId) (bytes : List ℕ) (n : ℕ) (first now next : DriverView) → n < length bytes
+    → next ≡ with_state (fed_byte now.net now.rounds now.inverses s (get_or bytes n 0) now.state) now → now ≡ fed_view s (take n bytes) first → next ≡ fed_view s (take (n + 1) bytes) first
+fed_next s bytes n first now next less is so_far =
+    is
+    ∙ ap (λ v. fed_view s (get_or bytes n 0 ∷ []) v) so_far
+    ∙ sym (fed-append s (take n bytes) (get_or bytes n 0 ∷ []) first)
+    ∙ ap (λ l. fed_view s l first) (sym (take_more bytes n 0 less))

@@ -1,5 +1,5 @@
 -- What contracts see of a driver, and what its calls answer.
-use Rattle.std.specs.Prelude.{◌≡◌, ◌<◌, ◌≤◌, ℕ, List, [], length, Option, Some, None}
+use Rattle.std.specs.Prelude.{◌≡◌, ◌<◌, ◌≤◌, ℕ, List, [], length, take, Option, Some, None}
 use Rattle.std.specs.List.{AllByRecursion}
 use Rattle.net_base.specs.declared.ids.SwitchId.{SwitchId}
 use Rattle.topology.specs.Networks.{Network, switch_count}
@@ -70,6 +70,12 @@ reopened_view s v = with_state (reopened_driver s v.state) v
 -- a driver after a switch died
 abbrev pub dead_view : SwitchId → DriverView → DriverView
 dead_view s v = with_state (dead_driver v.rounds s v.state) v
+
+-- a driver that some first of these bytes from a switch reached, but not all: once the session is opened again, it is as if no others had come
+pub record IsFedInPart (s : SwitchId) (bytes : List ℕ) (old new : DriverView) : Type 0 where
+  pub count : ℕ
+  pub few : count < length bytes
+  pub reopened : reopened_view s new ≡ reopened_view s (fed_view s (take count bytes) old)
 
 -- a driver that forgot what was said
 abbrev pub silent_view : DriverView → DriverView

@@ -1,8 +1,8 @@
 //! The driver.
-ghost use Rattle.std.specs.Prelude.{◌≡◌, ◌<◌, ◌+◌, length, IfOk, IfErr, OnOk, None};
+ghost use Rattle.std.specs.Prelude.{◌≡◌, ◌<◌, ◌+◌, length, IfOk, IfErr, OnOk, OnErr, None};
 ghost use Rattle.topology.specs.Networks.{switch_count};
 ghost use Rattle.two_way_driver.specs.Drivers.{peer_at, state_after_bytes, reopened_driver, dead_driver, first_driver};
-ghost use Rattle.two_way_driver.specs.Calls.{AreTurnable, IsServing, IsCallRefusal, KeepsUnlessMemory, start_fault, back_fault, started_view, turned_view, with_state, fed_view, reopened_view, dead_view, silent_view};
+ghost use Rattle.two_way_driver.specs.Calls.{AreTurnable, IsServing, IsCallRefusal, KeepsUnlessMemory, IsFedInPart, start_fault, back_fault, started_view, turned_view, with_state, fed_view, reopened_view, dead_view, silent_view};
 ghost use Rattle.two_way_driver.specs.Inside.{view_of};
 
 use crate::faults::CallFault;
@@ -91,12 +91,15 @@ fn back_on(plan: &TurnablePlan, talks: &mut Talks) -> Result<(), CallFault>
     }
 }
 
-/// Bytes come from a switch.
+/// Bytes come from a switch. Where memory is wanting those behind some number make no difference.
 fn feed_on(plan: &TurnablePlan, talks: &mut Talks, s: SwitchId, bytes: &[u8]) -> Result<(), Memory>
     requires serving { IsServing (view_of plan.now talks.old) }
     requires switch { s.0 < switch_count plan.now.net.now }
-    ensures { OnOk result
+    ensures ok { OnOk result
         (view_of plan.now talks.new ≡ fed_view s bytes.now (view_of plan.now talks.old)) }
+    ensures serving { IsServing (view_of plan.now talks.new) }
+    ensures err { OnErr result
+        (IsFedInPart s bytes.now (view_of plan.now talks.old) (view_of plan.now talks.new)) }
 {
     for byte in bytes {
         let leg = plan.leg(talks.stage);
@@ -105,12 +108,13 @@ fn feed_on(plan: &TurnablePlan, talks: &mut Talks, s: SwitchId, bytes: &[u8]) ->
     Ok(())
 }
 
-/// A switch died.
+/// A switch died. Where memory is wanting nothing changes.
 fn dead_switch(plan: &TurnablePlan, talks: &mut Talks, s: SwitchId) -> Result<(), Memory>
     requires serving { IsServing (view_of plan.now talks.old) }
     requires switch { s.0 < switch_count plan.now.net.now }
-    ensures { OnOk result
+    ensures ok { OnOk result
         (view_of plan.now talks.new ≡ dead_view s (view_of plan.now talks.old)) }
+    ensures err { OnErr result (view_of plan.now talks.new ≡ view_of plan.now talks.old) }
 {
     let leg = plan.leg(talks.stage);
     talks.die(leg.round, s)
@@ -179,12 +183,13 @@ impl<'a> Driver<'a> {
     /// Makes the session with a switch a waiting one, and says HELLO. By calling it the caller says that what was sent before
     /// to this switch and isn't carried out by then never will be, and that the switch kept its table; of a dead switch, that
     /// its table is the one that the events so far give. Once its HELLO comes, the messages of the running round to it that
-    /// aren't answered are said again, with the same xids. After want of memory the driver is of no use.
+    /// aren't answered are said again, with the same xids. After want of memory the driver is as before.
     pub fn reopen(&mut self, s: SwitchId) -> Result<(), Memory>
         requires serving { IsServing self.old }
         requires switch { s.0 < switch_count self.old.net }
         ensures ok { OnOk result (self.new ≡ reopened_view s self.old) }
-        ensures serving { OnOk result (IsServing self.new) }
+        ensures serving { IsServing self.new }
+        ensures err { OnErr result (self.new ≡ self.old) }
     {
         self.talks.reopen(s)
     }
@@ -192,24 +197,26 @@ impl<'a> Driver<'a> {
     /// A switch died: by calling it the caller says that no packet passes it any more, and that none will before its session
     /// is opened again. Until then nothing is sent to it, what comes from it does nothing, and no round waits for it. Directly
     /// before a round settles, in either way, its changes there are said to be made, or taken back. After want of memory the
-    /// driver is of no use.
+    /// driver is as before.
     pub fn dead(&mut self, s: SwitchId) -> Result<(), Memory>
         requires serving { IsServing self.old }
         requires switch { s.0 < switch_count self.old.net }
         ensures ok { OnOk result (self.new ≡ dead_view s self.old) }
-        ensures serving { OnOk result (IsServing self.new) }
+        ensures serving { IsServing self.new }
+        ensures err { OnErr result (self.new ≡ self.old) }
     {
         dead_switch(&self.plan, &mut self.talks, s)
     }
 
     /// Bytes come from a switch, in any pieces. What they make the driver say is said message by message. It costs as many
     /// steps as there are bytes; an answer costs besides as many as there are changes and switches. After want of memory the
-    /// driver is of no use.
+    /// session with the switch has to be opened again; then the driver is as if the first of the bytes had come, and no others.
     pub fn feed(&mut self, s: SwitchId, bytes: &[u8]) -> Result<(), Memory>
         requires serving { IsServing self.old }
         requires switch { s.0 < switch_count self.old.net }
         ensures ok { OnOk result (self.new ≡ fed_view s bytes.now self.old) }
-        ensures serving { OnOk result (IsServing self.new) }
+        ensures serving { IsServing self.new }
+        ensures err { OnErr result (IsFedInPart s bytes.now self.old self.new) }
     {
         feed_on(&self.plan, &mut self.talks, s, bytes)
     }

@@ -1,5 +1,5 @@
 //! What a driver keeps of one switch.
-ghost use Rattle.std.specs.Prelude.{◌≡◌, ◌||◌, is_none, length, IfOk, OnOk};
+ghost use Rattle.std.specs.Prelude.{◌≡◌, ◌||◌, is_none, length, IfOk, OnOk, OnErr};
 ghost use Rattle.switch_session.specs.Channels.{is_open, after_byte};
 ghost use Rattle.two_way_driver.specs.Peers.{first_peer, opened_anew, failure_in, heard_of, heard_by, peer_after, asks, asks_again, answers, reopened_peer, dead_peer, settled_peer};
 ghost use Rattle.two_way_driver.specs.Drivers.{is_open_or_dead};
@@ -160,12 +160,13 @@ impl Peer {
         self.asked.is_none() || self.is_dead
     }
 
-    /// A byte comes.
+    /// A byte comes. Where memory is wanting nothing changes but the channel, which opening the session again makes anew.
     #[tactic(auto, unfolding(crate::specs::Peers::peer_after))]
     pub(crate) fn hear(&mut self, alloc: Global, byte: u8) -> Result<ByteOutcome, Memory>
         ensures ok { OnOk result (self.new ≡ peer_after byte self.old) }
         ensures heard { IfOk result
             (λ h. h ≡ heard_by self.old.channel (after_byte byte self.old.channel)) }
+        ensures err { OnErr result (reopened_peer self.new ≡ reopened_peer self.old) }
     {
         let session = self.channel.session();
         let outstanding = self.channel.outstanding();
@@ -221,9 +222,11 @@ impl Peer {
         }
     }
 
-    /// The session waits for HELLO again, with nothing unread and no barrier request sent.
+    /// The session waits for HELLO again, with nothing unread and no barrier request sent. Where memory is wanting nothing
+    /// changes.
     pub(crate) fn reopen(&mut self, alloc: Global) -> Result<(), Memory>
-        ensures { OnOk result (self.new ≡ reopened_peer self.old) }
+        ensures ok { OnOk result (self.new ≡ reopened_peer self.old) }
+        ensures err { OnErr result (self.new ≡ self.old) }
     {
         self.channel = Channel::make(alloc)?;
         self.behind = None;
@@ -231,9 +234,10 @@ impl Peer {
         Ok(())
     }
 
-    /// The switch is dead now.
+    /// The switch is dead now. Where memory is wanting nothing changes.
     pub(crate) fn die(&mut self, alloc: Global) -> Result<(), Memory>
-        ensures { OnOk result (self.new ≡ dead_peer self.old) }
+        ensures ok { OnOk result (self.new ≡ dead_peer self.old) }
+        ensures err { OnErr result (self.new ≡ self.old) }
     {
         self.channel = Channel::make(alloc)?;
         self.behind = None;

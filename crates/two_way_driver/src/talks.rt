@@ -1,5 +1,5 @@
 //! What is said with all switches.
-ghost use Rattle.std.specs.Prelude.{◌≡◌, ◌<◌, ◌≤◌, ◌+◌, ◌^◌, ◌∷◌, ◌++◌, [], false, length, vec_len, is_none, not, map, replicate, slice_index_or, OnOk, IfOk};
+ghost use Rattle.std.specs.Prelude.{◌≡◌, ◌<◌, ◌≤◌, ◌+◌, ◌^◌, ◌∷◌, ◌++◌, [], false, length, vec_len, is_none, not, map, replicate, slice_index_or, vec_capacity, OnOk, OnErr, IfOk};
 ghost use Rattle.std.specs.List.{AllByRecursion, list_all};
 ghost use Rattle.topology.specs.Networks.{switch_count};
 ghost use Rattle.update_model.specs.Ranges.{IsPlanChange};
@@ -40,48 +40,47 @@ fn all_answered(peers: &[Peer]) -> bool
     peers.iter().all(|peer| peer.is_answered())
 }
 
-/// Says an event, if it came about.
-fn push_log(said: &mut Vec<DriverOutput>, wanted: bool, event: DriverEvent) -> Result<(), Memory>
-    ensures { OnOk result (said.new.items ≡ said.old.items ++ log_if wanted event) }
+/// Says an event, if it came about. There is room for it.
+fn push_log(said: &mut Vec<DriverOutput>, wanted: bool, event: DriverEvent)
+    requires { vec_len said.old < vec_capacity said.old }
+    ensures items { said.new.items ≡ said.old.items ++ log_if wanted event }
+    ensures len { vec_len said.new ≤ vec_len said.old + 1 }
+    ensures capacity { vec_capacity said.old ≤ vec_capacity said.new }
 {
     if wanted {
-        said.push(DriverOutput::Log(event))?;
+        said.push_reserved(DriverOutput::Log(event));
     }
-    Ok(())
 }
 
-/// Adds the events of a switch's changes that are made, ascending.
-fn push_changes(
-    said: &mut Vec<DriverOutput>,
-    round: &[Change],
-    switch: SwitchId,
-) -> Result<(), Memory>
-    ensures { OnOk result
-        (said.new.items ≡ said.old.items ++ change_notes (is_change_at switch) 0 round.now) }
+/// Adds the events of a switch's changes that are made, ascending. There is room for an event for each change of the round.
+fn push_changes(said: &mut Vec<DriverOutput>, round: &[Change], switch: SwitchId)
+    requires { vec_len said.old + length round.now ≤ vec_capacity said.old }
+    ensures items { said.new.items
+        ≡ said.old.items ++ change_notes (is_change_at switch) 0 round.now }
+    ensures len { vec_len said.new ≤ vec_len said.old + length round.now }
+    ensures capacity { vec_capacity said.old ≤ vec_capacity said.new }
 {
     for number in 0..round.len() {
         let is_here = round[number].switch().0 == switch.0;
-        push_log(said, is_here, DriverEvent::Change(number))?;
+        push_log(said, is_here, DriverEvent::Change(number));
     }
-    Ok(())
 }
 
-/// Adds the events of a switch's changes that are taken back, descending.
-fn push_undone(
-    said: &mut Vec<DriverOutput>,
-    round: &[Change],
-    switch: SwitchId,
-) -> Result<(), Memory>
-    ensures { OnOk result
-        (said.new.items ≡ said.old.items ++ undo_notes (is_change_at switch) 0 round.now) }
+/// Adds the events of a switch's changes that are taken back, descending. There is room for an event for each change of the
+/// round.
+fn push_undone(said: &mut Vec<DriverOutput>, round: &[Change], switch: SwitchId)
+    requires { vec_len said.old + length round.now ≤ vec_capacity said.old }
+    ensures items { said.new.items
+        ≡ said.old.items ++ undo_notes (is_change_at switch) 0 round.now }
+    ensures len { vec_len said.new ≤ vec_len said.old + length round.now }
+    ensures capacity { vec_capacity said.old ≤ vec_capacity said.new }
 {
     let mut left = round.len();
     while left > 0 {
         left -= 1;
         let is_here = round[left].switch().0 == switch.0;
-        push_log(said, is_here, DriverEvent::Undo(left))?;
+        push_log(said, is_here, DriverEvent::Undo(left));
     }
-    Ok(())
 }
 
 /// Whether a switch is dead.
@@ -104,44 +103,48 @@ fn is_in_force(in_force: &[bool], switch: SwitchId) -> bool
     }
 }
 
-/// Adds the events of the changes of dead switches that aren't in force, ascending.
+/// Adds the events of the changes of dead switches that aren't in force, ascending. There is room for an event for each change
+/// of the round.
 fn push_dead_changes(
     said: &mut Vec<DriverOutput>,
     round: &[Change],
     peers: &[Peer],
     in_force: &[bool],
-) -> Result<(), Memory>
-    ensures { OnOk result
-        (said.new.items
-        ≡ said.old.items ++ change_notes (is_dead_unmade peers.now in_force.now) 0 round.now) }
+)
+    requires { vec_len said.old + length round.now ≤ vec_capacity said.old }
+    ensures items { said.new.items
+        ≡ said.old.items ++ change_notes (is_dead_unmade peers.now in_force.now) 0 round.now }
+    ensures len { vec_len said.new ≤ vec_len said.old + length round.now }
+    ensures capacity { vec_capacity said.old ≤ vec_capacity said.new }
 {
     for number in 0..round.len() {
         let switch = round[number].switch();
         let is_left = is_dead(peers, switch) && !is_in_force(in_force, switch);
-        push_log(said, is_left, DriverEvent::Change(number))?;
+        push_log(said, is_left, DriverEvent::Change(number));
     }
-    Ok(())
 }
 
-/// Adds the events of the changes of dead switches that are in force, descending: they are taken back.
+/// Adds the events of the changes of dead switches that are in force, descending: they are taken back. There is room for an
+/// event for each change of the round.
 fn push_dead_undone(
     said: &mut Vec<DriverOutput>,
     round: &[Change],
     peers: &[Peer],
     in_force: &[bool],
-) -> Result<(), Memory>
-    ensures { OnOk result
-        (said.new.items
-        ≡ said.old.items ++ undo_notes (is_dead_made peers.now in_force.now) 0 round.now) }
+)
+    requires { vec_len said.old + length round.now ≤ vec_capacity said.old }
+    ensures items { said.new.items
+        ≡ said.old.items ++ undo_notes (is_dead_made peers.now in_force.now) 0 round.now }
+    ensures len { vec_len said.new ≤ vec_len said.old + length round.now }
+    ensures capacity { vec_capacity said.old ≤ vec_capacity said.new }
 {
     let mut left = round.len();
     while left > 0 {
         left -= 1;
         let switch = round[left].switch();
         let is_left = is_dead(peers, switch) && is_in_force(in_force, switch);
-        push_log(said, is_left, DriverEvent::Undo(left))?;
+        push_log(said, is_left, DriverEvent::Undo(left));
     }
-    Ok(())
 }
 
 /// Of a round that is settled nothing is asked of the dead switches any more.
@@ -276,9 +279,11 @@ impl Talks {
         })
     }
 
-    /// Says one thing more.
+    /// Says one thing more. Where memory is wanting nothing is said.
     fn say(&mut self, words: DriverOutput) -> Result<(), Memory>
-        ensures { OnOk result (state_of self.new ≡ with_said (words ∷ []) (state_of self.old)) }
+        ensures ok { OnOk result
+            (state_of self.new ≡ with_said (words ∷ []) (state_of self.old)) }
+        ensures err { OnErr result (state_of self.new ≡ state_of self.old) }
     {
         self.said.push(words)?;
         Ok(())
@@ -303,129 +308,143 @@ impl Talks {
         Ok(())
     }
 
-    /// The running round, which has these changes, is settled.
+    /// The running round, which has these changes, is settled. There is room for an event for each change, and one more.
     #[tactic(auto, unfolding(crate::specs::Drivers::settled_in))]
-    fn settle(&mut self, round: &[Change]) -> Result<(), Memory>
-        requires { FitsNext self.old.stage }
-        ensures { OnOk result
-            (state_of self.new ≡ settled_in round.now self.old.stage (state_of self.old)) }
+    fn settle(&mut self, round: &[Change])
+        requires fits { FitsNext self.old.stage }
+        requires room { vec_len self.old.said + length round.now < vec_capacity self.old.said }
+        ensures { state_of self.new ≡ settled_in round.now self.old.stage (state_of self.old) }
     {
         match self.stage {
-            Stage::Settled(_) => Ok(()),
+            Stage::Settled(_) => {}
             Stage::Onward(k) => {
-                push_dead_changes(&mut self.said, round, &self.peers, &self.in_force)?;
+                push_dead_changes(&mut self.said, round, &self.peers, &self.in_force);
                 settle_peers(&mut self.peers);
                 self.stage = Stage::Settled(k + 1);
-                self.say(DriverOutput::Log(DriverEvent::Settle))
+                push_log(&mut self.said, true, DriverEvent::Settle);
             }
             Stage::Undone(k) => {
-                push_dead_undone(&mut self.said, round, &self.peers, &self.in_force)?;
+                push_dead_undone(&mut self.said, round, &self.peers, &self.in_force);
                 settle_peers(&mut self.peers);
                 self.stage = Stage::Settled(k);
-                self.say(DriverOutput::Log(DriverEvent::SettleBack))
+                push_log(&mut self.said, true, DriverEvent::SettleBack);
             }
         }
     }
 
-    /// The running round, which has these changes, is settled, if all its barrier requests are answered.
+    /// The running round, which has these changes, is settled, if all its barrier requests are answered. There is room for an
+    /// event for each change, and one more.
     #[tactic(auto, unfolding(crate::specs::Drivers::settled_if_answered))]
-    fn settle_if_answered(&mut self, round: &[Change]) -> Result<(), Memory>
-        requires { FitsNext self.old.stage }
-        ensures { OnOk result
-            (state_of self.new ≡ settled_if_answered round.now (state_of self.old)) }
+    fn settle_if_answered(&mut self, round: &[Change])
+        requires fits { FitsNext self.old.stage }
+        requires room { vec_len self.old.said + length round.now < vec_capacity self.old.said }
+        ensures { state_of self.new ≡ settled_if_answered round.now (state_of self.old) }
     {
         if all_answered(&self.peers) {
-            return self.settle(round);
+            self.settle(round);
         }
-        Ok(())
     }
 
-    /// The changes of a switch are made.
+    /// The changes of a switch are made. There is room for an event for each change of the round.
     #[tactic(auto, unfolding(crate::specs::Drivers::made_state))]
-    fn make_changes(&mut self, round: &[Change], switch: SwitchId) -> Result<(), Memory>
-        requires { switch.0 < length self.old.in_force.items }
-        ensures after { OnOk result
-            (state_of self.new ≡ made_state round.now switch (state_of self.old)) }
+    fn make_changes(&mut self, round: &[Change], switch: SwitchId)
+        requires flag { switch.0 < length self.old.in_force.items }
+        requires room { vec_len self.old.said + length round.now ≤ vec_capacity self.old.said }
+        ensures after { state_of self.new ≡ made_state round.now switch (state_of self.old) }
         ensures stage { self.new.stage ≡ self.old.stage }
+        ensures len { vec_len self.new.said ≤ vec_len self.old.said + length round.now }
+        ensures capacity { vec_capacity self.old.said ≤ vec_capacity self.new.said }
     {
-        push_changes(&mut self.said, round, switch)?;
+        push_changes(&mut self.said, round, switch);
         self.in_force[switch.0 as usize] = true;
-        Ok(())
     }
 
-    /// The changes of a switch are taken back, if they are in force.
+    /// The changes of a switch are taken back, if they are in force. There is room for an event for each change of the round.
     #[tactic(auto, unfolding(crate::specs::Drivers::undone_state))]
-    fn undo_changes(&mut self, round: &[Change], switch: SwitchId) -> Result<(), Memory>
-        requires { switch.0 < length self.old.in_force.items }
-        ensures after { OnOk result
-            (state_of self.new ≡ undone_state round.now switch (state_of self.old)) }
+    fn undo_changes(&mut self, round: &[Change], switch: SwitchId)
+        requires flag { switch.0 < length self.old.in_force.items }
+        requires room { vec_len self.old.said + length round.now ≤ vec_capacity self.old.said }
+        ensures after { state_of self.new ≡ undone_state round.now switch (state_of self.old) }
         ensures stage { self.new.stage ≡ self.old.stage }
+        ensures len { vec_len self.new.said ≤ vec_len self.old.said + length round.now }
+        ensures capacity { vec_capacity self.old.said ≤ vec_capacity self.new.said }
     {
         if !self.in_force[switch.0 as usize] {
-            return Ok(());
+            return;
         }
-        push_undone(&mut self.said, round, switch)?;
+        push_undone(&mut self.said, round, switch);
         self.in_force[switch.0 as usize] = false;
-        Ok(())
     }
 
-    /// The last barrier request of a switch was answered.
-    fn carry_out(&mut self, round: &[Change], switch: SwitchId) -> Result<(), Memory>
-        requires { switch.0 < length self.old.in_force.items }
-        ensures after { OnOk result
-            (state_of self.new
-            ≡ carried_out round.now switch self.old.stage (state_of self.old)) }
+    /// The last barrier request of a switch was answered. There is room for an event for each change of the round.
+    fn carry_out(&mut self, round: &[Change], switch: SwitchId)
+        requires flag { switch.0 < length self.old.in_force.items }
+        requires room { vec_len self.old.said + length round.now ≤ vec_capacity self.old.said }
+        ensures after { state_of self.new
+            ≡ carried_out round.now switch self.old.stage (state_of self.old) }
         ensures stage { self.new.stage ≡ self.old.stage }
+        ensures len { vec_len self.new.said ≤ vec_len self.old.said + length round.now }
+        ensures capacity { vec_capacity self.old.said ≤ vec_capacity self.new.said }
     {
         match self.stage {
-            Stage::Settled(_) => Ok(()),
+            Stage::Settled(_) => {}
             Stage::Onward(_) => self.make_changes(round, switch),
             Stage::Undone(_) => self.undo_changes(round, switch),
         }
     }
 
-    /// The outstanding barrier request of a switch was answered.
+    /// The outstanding barrier request of a switch was answered. Where memory is wanting nothing changes.
     #[tactic(auto, unfolding(crate::specs::Drivers::answered_state))]
     fn answer(&mut self, round: &[Change], switch: SwitchId) -> Result<(), Memory>
         requires peer { switch.0 < length self.old.peers.items }
         requires flag { switch.0 < length self.old.in_force.items }
         requires fits { FitsNext self.old.stage }
-        ensures { OnOk result
+        ensures ok { OnOk result
             (state_of self.new ≡ answered_state round.now switch (state_of self.old)) }
+        ensures err { OnErr result (state_of self.new ≡ state_of self.old) }
     {
+        self.said.reserve(2 * round.len() + 1)?;
+        // From here on nothing fails.
         if !self.peers[switch.0 as usize].answer() {
-            return self.make_changes(round, switch);
+            self.make_changes(round, switch);
+            return Ok(());
         }
-        self.carry_out(round, switch)?;
-        self.settle_if_answered(round)
+        self.carry_out(round, switch);
+        self.settle_if_answered(round);
+        Ok(())
     }
 
-    /// The session of a switch is open now: what isn't answered is sent again.
+    /// The session of a switch is open now: what isn't answered is sent again. Where memory is wanting nothing changes.
     #[tactic(auto, unfolding(crate::specs::Drivers::opened_state))]
     fn open(&mut self, net: &Net, changes: &[Change], switch: SwitchId) -> Result<(), Memory>
         requires plan { AllByRecursion (IsPlanChange net.now) changes.now }
         requires peer { switch.0 < length self.old.peers.items }
-        ensures { OnOk result
+        ensures ok { OnOk result
             (state_of self.new
             ≡ opened_state net.now changes.now switch (state_of self.old)) }
+        ensures err { OnErr result (state_of self.new ≡ state_of self.old) }
     {
         let Some(xid) = self.peers[switch.0 as usize].asked() else {
             return Ok(());
         };
-        let batch = round_batch(*self.peers.allocator(), net, changes, self.first)?;
-        push_to(&mut self.said, &batch.list, switch)?;
+        let alloc = *self.peers.allocator();
+        let batch = round_batch(alloc, net, changes, self.first)?;
+        let mut words = Vec::new(alloc);
+        push_to(&mut words, &batch.list, switch)?;
+        self.said.append(&mut words)?;
         self.peers[switch.0 as usize].ask_again(xid);
         Ok(())
     }
 
-    /// This came of a byte from a switch.
+    /// This came of a byte from a switch. Where memory is wanting nothing changes.
     fn take(&mut self, leg: &Leg, switch: SwitchId, heard: ByteOutcome) -> Result<(), Memory>
         requires plan { AllByRecursion (IsPlanChange leg.now.net.now) leg.now.asked.now }
         requires peer { switch.0 < length self.old.peers.items }
         requires flag { switch.0 < length self.old.in_force.items }
         requires fits { FitsNext self.old.stage }
-        ensures { OnOk result
+        ensures ok { OnOk result
             (state_of self.new ≡ heard_on leg.now switch heard (state_of self.old)) }
+        ensures err { OnErr result (state_of self.new ≡ state_of self.old) }
     {
         match heard {
             ByteOutcome::Nothing => Ok(()),
@@ -436,14 +455,18 @@ impl Talks {
         }
     }
 
-    /// A byte comes from a switch. What comes from a dead one does nothing.
+    /// A byte comes from a switch. What comes from a dead one does nothing. Where memory is wanting nothing changes but the
+    /// channel to the switch: once its session is opened again, the byte makes no difference.
     pub(crate) fn feed_byte(&mut self, leg: &Leg, switch: SwitchId, byte: u8) -> Result<(), Memory>
         requires plan { AllByRecursion (IsPlanChange leg.now.net.now) leg.now.asked.now }
         requires peer { switch.0 < length self.old.peers.items }
         requires flag { switch.0 < length self.old.in_force.items }
         requires fits { FitsNext self.old.stage }
-        ensures { OnOk result
+        ensures ok { OnOk result
             (state_of self.new ≡ fed_on leg.now switch byte (state_of self.old)) }
+        ensures err { OnErr result
+            (reopened_driver switch (state_of self.new)
+            ≡ reopened_driver switch (state_of self.old)) }
     {
         if self.peers[switch.0 as usize].is_dead() {
             return Ok(());
@@ -451,6 +474,17 @@ impl Talks {
         let alloc = *self.peers.allocator();
         let heard = self.peers[switch.0 as usize].hear(alloc, byte)?;
         self.take(leg, switch, heard)
+    }
+
+    /// The running round, which has these changes, is settled, if all its barrier requests are answered.
+    fn try_settle(&mut self, round: &[Change]) -> Result<(), Memory>
+        requires { FitsNext self.old.stage }
+        ensures { OnOk result
+            (state_of self.new ≡ settled_if_answered round.now (state_of self.old)) }
+    {
+        self.said.reserve(round.len() + 1)?;
+        self.settle_if_answered(round);
+        Ok(())
     }
 
     /// The changes of the running round are all in force, or none is.
@@ -473,7 +507,7 @@ impl Talks {
         self.say(DriverOutput::Log(DriverEvent::Start))?;
         self.flag(false)?;
         self.send_out(net, round, Stage::Onward(k))?;
-        self.settle_if_answered(round)
+        self.try_settle(round)
     }
 
     /// The round of a leg, which was settled last, begins to be taken back. It stands behind k others.
@@ -496,32 +530,40 @@ impl Talks {
             (state_of self.new ≡ turned_on leg.now k (state_of self.old)) }
     {
         self.send_out(leg.net, leg.asked, Stage::Undone(k))?;
-        self.settle_if_answered(leg.round)
+        self.try_settle(leg.round)
     }
 
-    /// The session with a switch is opened again.
+    /// The session with a switch is opened again. Where memory is wanting nothing changes.
     pub(crate) fn reopen(&mut self, switch: SwitchId) -> Result<(), Memory>
         requires { switch.0 < length self.old.peers.items }
-        ensures { OnOk result
+        ensures ok { OnOk result
             (state_of self.new ≡ reopened_driver switch (state_of self.old)) }
+        ensures err { OnErr result (state_of self.new ≡ state_of self.old) }
     {
         let alloc = *self.peers.allocator();
+        let words = hello_to(alloc, switch)?;
+        self.said.reserve(1)?;
         self.peers[switch.0 as usize].reopen(alloc)?;
-        self.say(hello_to(alloc, switch)?)
+        self.said.push_reserved(words);
+        Ok(())
     }
 
-    /// A switch died. The running round has these changes.
+    /// A switch died. The running round has these changes. Where memory is wanting nothing changes.
     pub(crate) fn die(&mut self, round: &[Change], switch: SwitchId) -> Result<(), Memory>
         requires peer { switch.0 < length self.old.peers.items }
         requires fits { FitsNext self.old.stage }
-        ensures { OnOk result
+        ensures ok { OnOk result
             (state_of self.new ≡ dead_on round.now switch (state_of self.old)) }
+        ensures err { OnErr result (state_of self.new ≡ state_of self.old) }
     {
         if self.peers[switch.0 as usize].is_dead() {
             return Ok(());
         }
+        let events = round.len() + 1;
+        self.said.reserve(events)?;
         let alloc = *self.peers.allocator();
         self.peers[switch.0 as usize].die(alloc)?;
-        self.settle_if_answered(round)
+        self.settle_if_answered(round);
+        Ok(())
     }
 }

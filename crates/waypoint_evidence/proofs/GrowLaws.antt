@@ -17,9 +17,9 @@ use Rattle.net_base.proofs.WalkLaws.{walk_weaker}
 use Rattle.net_base.proofs.ItemLaws.{in_at}
 
 -- an edge by which a set is left
-pub not_stays : (set : List ℕ) (waypoint : SwitchId) (earlier : Option (List ℕ)) (e : Edge) → ¬ Stays set waypoint earlier e
-    → Holds set e.from × (¬ Holds set e.to) × ((e.to ≡ waypoint) → HoldsEarlier earlier e.from)
-not_stays set waypoint earlier e out = (
+pub not_stays : (set : List ℕ) (item : List SwitchId) (earlier : Option (List ℕ)) (e : Edge) → ¬ Stays set item earlier e
+    → Holds set e.from × (¬ Holds set e.to) × (IsIn e.to item → HoldsEarlier earlier e.from)
+not_stays set item earlier e out = (
   elim (cases_in e.from.0 set) [ inl i ↦ i | inr absent ↦ absurd (out (λ h. absurd (absent h))) ],
   λ held. out (λ h. inl held),
   λ at. elim (cases_earlier earlier e.from) [ inl h ↦ h | inr absent ↦ absurd (out (λ h. inr (absent, at))) ],
@@ -70,13 +70,13 @@ module _ (start : SwitchId) (step : SwitchId → SwitchId → Type 0) where
       }
 
 -- each edge of the list, as a step
-pub edges_stay : (set : List ℕ) (waypoint : SwitchId) (earlier : Option (List ℕ)) (edges : List Edge) → All (Stays set waypoint earlier) edges
-    → (s t : SwitchId) → IsEdge edges s t → Holds set s → Holds set t ⊎ ((¬ HoldsEarlier earlier s) × (t ≡ waypoint))
-edges_stay set waypoint earlier edges all s t edge = each_at (Stays set waypoint earlier) edges (record { from = s; to = t }) (recursion_from_All (Stays set waypoint earlier) edges all) edge
+pub edges_stay : (set : List ℕ) (item : List SwitchId) (earlier : Option (List ℕ)) (edges : List Edge) → All (Stays set item earlier) edges
+    → (s t : SwitchId) → IsEdge edges s t → Holds set s → Holds set t ⊎ ((¬ HoldsEarlier earlier s) × IsIn t item)
+edges_stay set item earlier edges all s t edge = each_at (Stays set item earlier) edges (record { from = s; to = t }) (recursion_from_All (Stays set item earlier) edges all) edge
 
-module _ (start : SwitchId) (edges : List Edge) (waypoint : SwitchId) (earlier : Option (List ℕ)) (steps : List Edge) (set : List ℕ) (grown : IsGrown start (MissesStep (IsEdge edges) waypoint earlier) steps set) (apart : IsFirst earlier → ¬ (start ≡ waypoint)) where
-  -- each set that is left only to the waypoint holds what is known
-  module _ (other : List ℕ) (is : IsBeforeSet start (IsEdge edges) waypoint earlier other) where
+module _ (start : SwitchId) (edges : List Edge) (item : List SwitchId) (earlier : Option (List ℕ)) (steps : List Edge) (set : List ℕ) (grown : IsGrown start (MissesStep (IsEdge edges) item earlier) steps set) (apart : IsFirst earlier → ¬ IsIn start item) where
+  -- each set that is left only to the item holds what is known
+  module _ (other : List ℕ) (is : IsBeforeSet start (IsEdge edges) item earlier other) where
     start_held : Holds other start
     start_held = elim is.begins [ inl h ↦ h | inr same ↦ absurd (apart same.0 same.1) ]
 
@@ -106,9 +106,9 @@ module _ (start : SwitchId) (edges : List Edge) (waypoint : SwitchId) (earlier :
     pub grown_least : (s : SwitchId) → Holds set s → Holds other s
     grown_least s h = known_held (length steps) (omega arith) s (subst (λ (xs : List Edge). IsKnown start xs s) (sym (take_all (length steps) steps (omega arith))) (grown.known s h))
 
-  pub least_from_grown : All (Stays set waypoint earlier) edges → IsLeastBefore start (IsEdge edges) waypoint earlier set
+  pub least_from_grown : All (Stays set item earlier) edges → IsLeastBefore start (IsEdge edges) item earlier set
   least_from_grown all = record {
-    before = record { begins = inl grown.begins; stays = edges_stay set waypoint earlier edges all };
+    before = record { begins = inl grown.begins; stays = edges_stay set item earlier edges all };
     least = λ other is s h. grown_least other is s h;
   }
 
@@ -155,15 +155,15 @@ back_past start steps k at end switches e back is elsewhere =
           | inr i ↦ elim i [ inl same ↦ absurd (elsewhere (ap (λ (x : Edge). x.to.0) (sym same) ∙ ap (λ (x : SwitchId). x.0) known.2)) | inr none ↦ absurd none ]
         ]
 
--- a walk over the steps by which a set grew misses the waypoint
-pub missing_from_walk : (start : SwitchId) (edges : List Edge) (leaving : List SwitchId) (waypoint : SwitchId) (earlier : Option (List ℕ)) (steps : List Edge) (set : List ℕ) (end : SwitchId) (switches : List SwitchId)
-    → IsGrown start (MissesStep (IsEdge edges) waypoint earlier) steps set → (IsFirst earlier → ¬ (start ≡ waypoint)) → IsIn end leaving → IsWalkTo start (IsEdge steps) end switches
-    → IsMissingWalk start edges leaving waypoint earlier switches
-missing_from_walk start edges leaving waypoint earlier steps set end switches grown apart leaves to = record {
+-- a walk over the steps by which a set grew misses the item
+pub missing_from_walk : (start : SwitchId) (edges : List Edge) (leaving : List SwitchId) (item : List SwitchId) (earlier : Option (List ℕ)) (steps : List Edge) (set : List ℕ) (end : SwitchId) (switches : List SwitchId)
+    → IsGrown start (MissesStep (IsEdge edges) item earlier) steps set → (IsFirst earlier → ¬ IsIn start item) → IsIn end leaving → IsWalkTo start (IsEdge steps) end switches
+    → IsMissingWalk start edges leaving item earlier switches
+missing_from_walk start edges leaving item earlier steps set end switches grown apart leaves to = record {
   rest = to.rest;
   is = to.is;
-  walk = walk_weaker (IsEdge steps) (MissesStep (IsEdge edges) waypoint earlier)
-      (λ s t i. all_members (λ (e : Edge). MissesStep (IsEdge edges) waypoint earlier e.from e.to) steps grown.each (record { from = s; to = t }) i) start to.rest to.walk;
+  walk = walk_weaker (IsEdge steps) (MissesStep (IsEdge edges) item earlier)
+      (λ s t i. all_members (λ (e : Edge). MissesStep (IsEdge edges) item earlier e.from e.to) steps grown.each (record { from = s; to = t }) i) start to.rest to.walk;
   leaves = subst (λ (s : SwitchId). IsIn s leaving) (sym to.ends) leaves;
   begins = apart;
 }

@@ -1,5 +1,5 @@
 -- A set that grows from a start by steps, and what becomes of it.
-use Rattle.std.specs.Prelude.{◌≡◌, ◌≢◌, ◌⊎◌, ℕ, ◌<◌, ◌≤◌, reverse, List, ◌∷◌, Option, length, take, slice_index_or}
+use Rattle.std.specs.Prelude.{◌≡◌, ◌⊎◌, ℕ, ◌<◌, ◌≤◌, reverse, List, ◌∷◌, Option, length, take, slice_index_or}
 use Rattle.net_base.specs.Members.{IsIn}
 use Rattle.net_base.specs.Walks.{IsWalk, end_of}
 use Rattle.net_base.specs.declared.ids.SwitchId.{SwitchId}
@@ -40,17 +40,17 @@ pub record IsWalkBack (start : SwitchId) (steps : List Edge) (k : ℕ) (at end :
   pub known : IsKnown start (take k steps) at
   pub within : k ≤ length steps
 
--- a walk of edges from the start to a leaving switch in which no step goes to the waypoint from outside the set before,
--- and which doesn't begin at the waypoint where the position is a first one
-pub record IsMissingWalk (start : SwitchId) (edges : List Edge) (leaving : List SwitchId) (waypoint : SwitchId) (earlier : Option (List ℕ)) (switches : List SwitchId) : Type 0 where
+-- a walk of edges from the start to a leaving switch in which no step goes to a switch of the item from outside the set before,
+-- and which doesn't begin in the item where the position is a first one
+pub record IsMissingWalk (start : SwitchId) (edges : List Edge) (leaving : List SwitchId) (item : List SwitchId) (earlier : Option (List ℕ)) (switches : List SwitchId) : Type 0 where
   pub rest : List SwitchId
   pub is : switches ≡ start ∷ rest
-  pub walk : IsWalk (MissesStep (IsEdge edges) waypoint earlier) start rest
+  pub walk : IsWalk (MissesStep (IsEdge edges) item earlier) start rest
   pub leaves : IsIn (end_of start rest) leaving
-  pub begins : IsFirst earlier → start ≢ waypoint
+  pub begins : IsFirst earlier → ¬ IsIn start item
 
--- the least set, where it holds no leaving switch, or a walk that misses the waypoint
-abbrev pub IsBefored : SwitchId → List Edge → List SwitchId → SwitchId → Option (List ℕ) → Befored → Type 0
-IsBefored start edges leaving waypoint earlier (Set set) =
-    IsLeastBefore start (IsEdge edges) waypoint earlier set × ((s : SwitchId) → IsIn s leaving → ¬ Holds set s)
-IsBefored start edges leaving waypoint earlier (Walk switches) = IsMissingWalk start edges leaving waypoint earlier switches
+-- the least set, where it holds no leaving switch, or a walk that misses the item
+abbrev pub IsBefored : SwitchId → List Edge → List SwitchId → List SwitchId → Option (List ℕ) → Befored → Type 0
+IsBefored start edges leaving item earlier (Set set) =
+    IsLeastBefore start (IsEdge edges) item earlier set × ((s : SwitchId) → IsIn s leaving → ¬ Holds set s)
+IsBefored start edges leaving item earlier (Walk switches) = IsMissingWalk start edges leaving item earlier switches

@@ -1,4 +1,4 @@
-//! Sets of switches that a packet doesn't leave before it meets a waypoint.
+//! Sets of switches that a packet doesn't leave before it meets an item of a chain: one of the item's switches.
 #![tactic(auto)]
 
 ghost use Rattle.std.specs.Prelude.{◌≡◌, ◌↔◌, ◌⊎◌, ◌<◌, ◌+◌, ◌≤◌, ℕ, List, [], ◌∷◌, ◌++◌, length, IsTrue, All, map, MatchOption, IfOk, OnOk};
@@ -15,7 +15,7 @@ mod marks;
 
 use acyclic_numbering::{Edge, SwitchList};
 use marks::marks_of;
-use net_base::{Memory, SwitchId, SwitchSet};
+use net_base::{Memory, SwitchGroup, SwitchId, SwitchSet};
 use std::alloc::Global;
 use std::marker::Model;
 
@@ -34,7 +34,7 @@ impl Model for Before {
     ghost view = { λ b. marked_from 0 (marks_in b.switches) };
 }
 
-/// The least before set, or a walk of edges that misses the waypoint.
+/// The least before set, or a walk of edges that misses the item.
 #[derive(Drop)]
 pub enum Befored {
     Set(Before),
@@ -99,38 +99,38 @@ fn holds_earlier(earlier: Option<&Before>, s: SwitchId) -> bool
     }
 }
 
-/// Whether the edge goes to the waypoint from outside the set of the position before, if there is one. The switch that it
-/// leaves is below 128.
-pub fn meets(edge: Edge, waypoint: SwitchId, earlier: Option<&Before>) -> bool
+/// Whether the edge goes to a switch of the item from outside the set of the position before, if there is one. The switch
+/// that it leaves is below 128.
+pub fn meets(edge: Edge, item: &SwitchGroup, earlier: Option<&Before>) -> bool
     requires { edge.from.0 < most_switches }
     ensures { IsTrue result ↔ ((¬ HoldsEarlier (option_copied earlier.entry) edge.from)
-        × (edge.to ≡ waypoint)) }
+        × IsIn edge.to item.now) }
 {
-    edge.to.0 == waypoint.0 && !holds_earlier(earlier, edge.from)
+    item.has(edge.to) && !holds_earlier(earlier, edge.from)
 }
 
-/// Whether the set is not left by the edge, or only to the waypoint.
-fn stays(before: &Before, edge: Edge, waypoint: SwitchId, earlier: Option<&Before>) -> bool
+/// Whether the set is not left by the edge, or only to the item.
+fn stays(before: &Before, edge: Edge, item: &SwitchGroup, earlier: Option<&Before>) -> bool
     requires { (edge.from.0 < most_switches) × (edge.to.0 < most_switches) }
-    ensures { IsTrue result ↔ Stays before.now waypoint (option_copied earlier.entry) edge }
+    ensures { IsTrue result ↔ Stays before.now item.now (option_copied earlier.entry) edge }
 {
-    !before.holds(edge.from) || before.holds(edge.to) || meets(edge, waypoint, earlier)
+    !before.holds(edge.from) || before.holds(edge.to) || meets(edge, item, earlier)
 }
 
-/// An edge by which the set is left other than to the waypoint.
+/// An edge by which the set is left other than to the item.
 fn way_out(
     before: &Before,
     edges: &[Edge],
-    waypoint: SwitchId,
+    item: &SwitchGroup,
     earlier: Option<&Before>,
 ) -> Option<Edge>
     requires { All (λ e. (e.from.0 < most_switches) × (e.to.0 < most_switches)) edges.now }
-    ensures { MatchOption result (All (Stays before.now waypoint (option_copied earlier.entry))
+    ensures { MatchOption result (All (Stays before.now item.now (option_copied earlier.entry))
         edges.now) (λ e. IsIn e edges.now
-        × ¬ Stays before.now waypoint (option_copied earlier.entry) e) }
+        × ¬ Stays before.now item.now (option_copied earlier.entry) e) }
 {
     for edge in edges {
-        if !stays(before, *edge, waypoint, earlier) {
+        if !stays(before, *edge, item, earlier) {
             return Some(*edge);
         }
     }
@@ -151,34 +151,34 @@ fn first_held(before: &Before, switches: &[SwitchId]) -> Option<SwitchId>
     None
 }
 
-/// Whether the position is a first one and the start is its waypoint.
-fn starts_there(start: SwitchId, waypoint: SwitchId, earlier: Option<&Before>) -> bool
-    ensures { IsTrue result ↔ (IsFirst (option_copied earlier.entry) × (start ≡ waypoint)) }
+/// Whether the position is a first one and the start is a switch of its item.
+fn starts_there(start: SwitchId, item: &SwitchGroup, earlier: Option<&Before>) -> bool
+    ensures { IsTrue result ↔ (IsFirst (option_copied earlier.entry) × IsIn start item.now) }
 {
-    earlier.is_none() && start.0 == waypoint.0
+    earlier.is_none() && item.has(start)
 }
 
-/// Whether the set holds the start, which is below 128, or the position is a first one and the start is the waypoint.
+/// Whether the set holds the start, which is below 128, or the position is a first one and the start is in the item.
 pub fn begins(
     before: &Before,
     start: SwitchId,
-    waypoint: SwitchId,
+    item: &SwitchGroup,
     earlier: Option<&Before>,
 ) -> bool
     requires { start.0 < most_switches }
     ensures { IsTrue result ↔ (Holds before.now start
-        ⊎ (IsFirst (option_copied earlier.entry) × (start ≡ waypoint))) }
+        ⊎ (IsFirst (option_copied earlier.entry) × IsIn start item.now)) }
 {
-    before.holds(start) || starts_there(start, waypoint, earlier)
+    before.holds(start) || starts_there(start, item, earlier)
 }
 
-/// Whether each edge stays in the set, or goes from outside the set before to the waypoint.
-fn all_stay(before: &Before, edges: &[Edge], waypoint: SwitchId, earlier: Option<&Before>) -> bool
+/// Whether each edge stays in the set, or goes from outside the set before to a switch of the item.
+fn all_stay(before: &Before, edges: &[Edge], item: &SwitchGroup, earlier: Option<&Before>) -> bool
     requires { All (λ e. (e.from.0 < most_switches) × (e.to.0 < most_switches)) edges.now }
-    ensures { IsTrue result ↔ All (Stays before.now waypoint (option_copied earlier.entry))
+    ensures { IsTrue result ↔ All (Stays before.now item.now (option_copied earlier.entry))
         edges.now }
 {
-    match way_out(before, edges, waypoint, earlier) {
+    match way_out(before, edges, item, earlier) {
         None => true,
         Some(_) => false,
     }
@@ -195,63 +195,63 @@ fn holds_none(before: &Before, switches: &[SwitchId]) -> bool
     }
 }
 
-/// Whether the set is left only to the waypoint.
+/// Whether the set is left only to the item.
 fn is_before_set(
     before: &Before,
     start: SwitchId,
     edges: &[Edge],
-    waypoint: SwitchId,
+    item: &SwitchGroup,
     earlier: Option<&Before>,
 ) -> bool
     requires start { start.0 < most_switches }
     requires edges { All (λ e. (e.from.0 < most_switches) × (e.to.0 < most_switches)) edges.now }
-    ensures { IsTrue result ↔ IsBeforeSet start (IsEdge edges.now) waypoint
+    ensures { IsTrue result ↔ IsBeforeSet start (IsEdge edges.now) item.now
         (option_copied earlier.entry) before.now }
 {
-    begins(before, start, waypoint, earlier) && all_stay(before, edges, waypoint, earlier)
+    begins(before, start, item, earlier) && all_stay(before, edges, item, earlier)
 }
 
-/// Whether the set guards the waypoint: it holds the start, unless the position is a first one and
-/// the start is the waypoint, is left only to the waypoint, and holds no leaving switch.
+/// Whether the set guards the item: it holds the start, unless the position is a first one and the
+/// start is in the item, is left only to the item, and holds no leaving switch.
 pub fn closed(
     before: &Before,
     start: SwitchId,
     edges: &[Edge],
     leaving: &[SwitchId],
-    waypoint: SwitchId,
+    item: &SwitchGroup,
     earlier: Option<&Before>,
 ) -> bool
     requires start { start.0 < most_switches }
     requires edges { All (λ e. (e.from.0 < most_switches) × (e.to.0 < most_switches)) edges.now }
     requires leaving { All (λ s. s.0 < most_switches) leaving.now }
-    ensures { IsTrue result ↔ IsGuard start (IsEdge edges.now) (λ s. IsIn s leaving.now) waypoint
+    ensures { IsTrue result ↔ IsGuard start (IsEdge edges.now) (λ s. IsIn s leaving.now) item.now
         (option_copied earlier.entry) before.now }
 {
-    is_before_set(before, start, edges, waypoint, earlier) && holds_none(before, leaving)
+    is_before_set(before, start, edges, item, earlier) && holds_none(before, leaving)
 }
 
 /// Puts the start and each switch that an edge leads to from the set, but for the edges that the
-/// waypoint allows; the steps are the edges by which it grew.
+/// item allows; the steps are the edges by which it grew.
 fn grow(
     alloc: Global,
     before: &mut Before,
     start: SwitchId,
     edges: &[Edge],
-    waypoint: SwitchId,
+    item: &SwitchGroup,
     earlier: Option<&Before>,
 ) -> Result<Vec<Edge>, Memory>
     requires empty { before.old ≡ [] }
     requires start { start.0 < most_switches }
     requires edges { All (λ e. (e.from.0 < most_switches) × (e.to.0 < most_switches)) edges.now }
     ensures grown { IfOk result (λ steps. IsGrown start
-        (MissesStep (IsEdge edges.now) waypoint (option_copied earlier.entry)) steps.items
+        (MissesStep (IsEdge edges.now) item.now (option_copied earlier.entry)) steps.items
         before.new) }
-    ensures full { OnOk result (All (Stays before.new waypoint (option_copied earlier.entry))
+    ensures full { OnOk result (All (Stays before.new item.now (option_copied earlier.entry))
         edges.now) }
 {
     let mut steps = Vec::new(alloc);
     before.put(start);
-    'growing: while let Some(edge) = way_out(before, edges, waypoint, earlier) {
+    'growing: while let Some(edge) = way_out(before, edges, item, earlier) {
         before.put(edge.to);
         steps.push(edge)?;
     }
@@ -284,8 +284,8 @@ fn walk_to(
     Ok(walk)
 }
 
-/// The least set that is left only to the waypoint, where it holds no leaving switch, or a walk to
-/// one that misses the waypoint. `earlier` is the set of the position before in the chain; None says
+/// The least set that is left only to the item, where it holds no leaving switch, or a walk to one
+/// that misses the item. `earlier` is the set of the position before in the chain; None says
 /// a first position. It looks at each edge once for each switch of the set at most.
 pub fn before_set(
     alloc: Global,
@@ -293,21 +293,21 @@ pub fn before_set(
     start: SwitchId,
     edges: &[Edge],
     leaving: &[SwitchId],
-    waypoint: SwitchId,
+    item: &SwitchGroup,
     earlier: Option<&Before>,
 ) -> Result<Befored, Memory>
     requires switches { switches ≤ most_switches }
     requires start { start.0 < switches }
     requires edges { All (λ e. (e.from.0 < switches) × (e.to.0 < switches)) edges.now }
     requires leaving { All (λ s. s.0 < switches) leaving.now }
-    ensures { IfOk result (λ found. IsBefored start edges.now leaving.now waypoint
+    ensures { IfOk result (λ found. IsBefored start edges.now leaving.now item.now
         (option_copied earlier.entry) found) }
 {
     let mut before = Before::none();
-    if starts_there(start, waypoint, earlier) {
+    if starts_there(start, item, earlier) {
         return Ok(Befored::Set(before));
     }
-    let steps = grow(alloc, &mut before, start, edges, waypoint, earlier)?;
+    let steps = grow(alloc, &mut before, start, edges, item, earlier)?;
     match first_held(&before, leaving) {
         None => Ok(Befored::Set(before)),
         Some(end) => Ok(Befored::Walk(SwitchList::of(walk_to(alloc, start, &steps, end)?))),

@@ -11,7 +11,7 @@ use Rattle.net_base.specs.Switches.{most_switches}
 
 pub growing-init : goal.growing-init
 growing-init c =
-    let step = MissesStep (IsEdge c.args.edges.now) c.args.waypoint (option_copied c.args.earlier) in
+    let step = MissesStep (IsEdge c.args.edges.now) c.args.item.now (option_copied c.args.earlier) in
     let set = c.put.new.self in
     let is : (t : SwitchId) → Holds set t ↔ ((t ≡ c.args.start) ⊎ Holds [] t) = subst (λ (v : List ℕ). (t : SwitchId) → Holds set t ↔ ((t ≡ c.args.start) ⊎ Holds v t)) c.requires.empty c.put.ensures.holds in
     (subst (λ (xs : List Edge). IsGrown c.args.start step xs set) (sym c.new-steps.ensures.items) (grown_start c.args.start step set is), c.put.ensures.most)
@@ -22,10 +22,10 @@ put-requires-in-Some c =
 
 pub growing-preserved : goal.growing-preserved
 growing-preserved c =
-    let step = MissesStep (IsEdge c.args.edges.now) c.args.waypoint (option_copied c.args.earlier) in
+    let step = MissesStep (IsEdge c.args.edges.now) c.args.item.now (option_copied c.args.earlier) in
     let edge = c.in-Some.edge in
     let set = c.put-in-Some.new.self in
-    let out = not_stays c.growing.before c.args.waypoint (option_copied c.args.earlier) edge c.in-Some.ensures.1 in (
+    let out = not_stays c.growing.before c.args.item.now (option_copied c.args.earlier) edge c.in-Some.ensures.1 in (
       subst (λ (xs : List Edge). IsGrown c.args.start step xs set) (sym c.in_ok-push.ensures.items)
           (grown_more c.args.start step c.growing.steps.items edge c.growing.before set c.growing.invariant.0 out.0 (c.in-Some.ensures.0, out.2) c.put-in-Some.ensures.holds),
       c.put-in-Some.ensures.most,

@@ -1,4 +1,4 @@
-use Rattle.net_base.specs.Members.{IsSubsequence}
+use Rattle.net_base.specs.Members.{MeetsInOrder}
 use Rattle.demands.specs.Duties.{duties_of}
 use Rattle.demands.specs.Good.{switches_of}
 use Rattle.config_check.proofs.JudgeLaws.{each_next, misses_at}
@@ -13,5 +13,5 @@ returns-in-Some-clause-some c =
 pub loop-i-preserved : goal.loop-i-preserved
 loop-i-preserved c =
     λ class is.
-    each_next (λ chain. IsSubsequence chain (switches_of c.args.stops.now)) (duties_of c.args.duties.now.demands class.entry class.first).chains c.loop-i.i c.chain.result.now
+    each_next (λ chain. MeetsInOrder chain (switches_of c.args.stops.now)) (duties_of c.args.duties.now.demands class.entry class.first).chains c.loop-i.i c.chain.result.now
     (c.chain.ensures.chain class is) c.in_default.ensures.none (c.loop-i.invariant class is)

@@ -1,6 +1,6 @@
 use Rattle.std.proofs.Common.{◌≡◌, take}
-use Rattle.demands.specs.Duties.{first_of_each}
+use Rattle.demands.specs.Duties.{items_of_chain}
 use Rattle.demands.proofs.chains.each_once.Given as goal
 
-abbrev pub invariant-loop-switch : goal.invariant-loop-switch
-invariant-loop-switch l = l.kept.items ≡ first_of_each (take l.switch-index l.switches)
+abbrev pub invariant-loop-item : goal.invariant-loop-item
+invariant-loop-item l = l.kept.items ≡ items_of_chain (take l.item-index l.items)

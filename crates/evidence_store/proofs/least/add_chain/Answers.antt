@@ -10,14 +10,14 @@ use Rattle.evidence_store.proofs.LeastLaws.{chain_next, chain_stops}
 use Rattle.evidence_store.proofs.least.add_chain.Goals as goal
 
 -- what was found, for the last set so far
-found_at : (net : Network) (start : SwitchId) (noted : WalkState) (w : SwitchId) (earlier last : Option (List ℕ)) (found is : Option (List ℕ)) → earlier ≡ last → found ≡ is
+found_at : (net : Network) (start : SwitchId) (noted : WalkState) (w : List SwitchId) (earlier last : Option (List ℕ)) (found is : Option (List ℕ)) → earlier ≡ last → found ≡ is
     → IsGuardFound net start noted w earlier found → IsGuardFound net start noted w last is
 found_at net start noted w earlier last found is e f h = subst (λ (o : Option (List ℕ)). IsGuardFound net start noted w o is) e (subst (IsGuardFound net start noted w earlier) f h)
 
 pub returns-in-None : goal.returns-in-None
 returns-in-None c others enough guards =
     let (sets, split, long, so_far) = c.loop-place.invariant in
-    let none : SwitchId = record { 0 = 0 } in
+    let none : List SwitchId = [] in
     let w = get_or c.args.chain.now c.loop-place.place none in
     let is = slice_get-get_or c.args.chain.now c.loop-place.place none c.loop-place-test.true in
     let last : option_copied c.last_set-earlier.result ≡ last_or None sets = c.last_set-earlier.ensures c.args.befores.now sets split long in
@@ -28,7 +28,7 @@ returns-in-None c others enough guards =
 pub loop-place-preserved : goal.loop-place-preserved
 loop-place-preserved c =
     let (sets, split, long, so_far) = c.loop-place.invariant in
-    let none : SwitchId = record { 0 = 0 } in
+    let none : List SwitchId = [] in
     let set : List ℕ = c.in-Some.set in
     let w = get_or c.args.chain.now c.loop-place.place none in
     let is = slice_get-get_or c.args.chain.now c.loop-place.place none c.loop-place-test.true in

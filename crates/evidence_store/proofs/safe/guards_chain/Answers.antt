@@ -1,4 +1,4 @@
-use Rattle.std.proofs.Common.{◌≡◌, ◌↔◌, ℕ, List, Bool, IsTrue, get_or, take, Option, None, subst, ◌∙◌, arith}
+use Rattle.std.proofs.Common.{◌≡◌, ◌↔◌, ℕ, List, [], Bool, IsTrue, get_or, take, Option, None, subst, ◌∙◌, arith}
 use Rattle.std.specs.List.{last_or}
 use Rattle.std.specs.Option.{option_copied}
 use Rattle.std.proofs.lemmas.Option.{slice_get-get_or}
@@ -15,7 +15,7 @@ use Rattle.evidence_store.proofs.GuardLaws.{before_taken, chain_more, chain_at, 
 use Rattle.evidence_store.proofs.safe.guards_chain.Goals as goal
 
 -- what was told, of the lists that were noted and of the set before
-told_of : (start w : SwitchId) (steps steps_ : List Edge) (leaving leaving_ : List SwitchId) (earlier last : Option (List ℕ)) (set : List ℕ) (b : Bool) → steps ≡ steps_ → leaving ≡ leaving_ → earlier ≡ last
+told_of : (start : SwitchId) (w : List SwitchId) (steps steps_ : List Edge) (leaving leaving_ : List SwitchId) (earlier last : Option (List ℕ)) (set : List ℕ) (b : Bool) → steps ≡ steps_ → leaving ≡ leaving_ → earlier ≡ last
     → (IsTrue b ↔ IsGuard start (IsEdge steps) (λ s. IsIn s leaving) w earlier set) → IsTrue b ↔ IsGuard start (IsEdge steps_) (λ s. IsIn s leaving_) w last set
 told_of start w steps steps_ leaving leaving_ earlier last set b p q r h =
     subst (λ (es : List Edge). IsTrue b ↔ IsGuard start (IsEdge es) (λ s. IsIn s leaving_) w last set) p
@@ -24,7 +24,7 @@ told_of start w steps steps_ leaving leaving_ earlier last set b p q r h =
 
 pub returns-then-not-closed : goal.returns-then-not-closed
 returns-then-not-closed c =
-    let none : SwitchId = record { 0 = 0 } in
+    let none : List SwitchId = [] in
     let noted = c.args.walk.now in
     let sets = sets_of c.args.befores.now c.args.indices.now in
     let place = c.loop-place.place in
@@ -36,7 +36,7 @@ returns-then-not-closed c =
 
 pub loop-place-preserved : goal.loop-place-preserved
 loop-place-preserved c =
-    let none : SwitchId = record { 0 = 0 } in
+    let none : List SwitchId = [] in
     let noted = c.args.walk.now in
     let sets = sets_of c.args.befores.now c.args.indices.now in
     let place = c.loop-place.place in

@@ -6,6 +6,7 @@ use Rattle.std.proofs.lemmas.List.{length-map}
 use Rattle.std.proofs.lemmas.List.Elements.{All-from_recursion}
 use Rattle.net_base.specs.Members.{IsIn}
 use Rattle.net_base.specs.declared.ids.SwitchId.{SwitchId}
+use Rattle.net_base.specs.declared.ids.Stop.{Stop}
 use Rattle.net_base.proofs.MemberLaws.{each_weaker}
 use Rattle.topology.specs.Networks.{switch_count}
 use Rattle.acyclic_numbering.specs.Heights.{IsEdge}
@@ -25,11 +26,11 @@ use Rattle.check_reasons.specs.Reasons.{class_duties}
 use Rattle.mixed_walks.specs.Walks.{WalkState, IsWalked}
 use Rattle.check_reasons.specs.Positions.{sets_of, position_count}
 use Rattle.check_reasons.specs.Least.{IsLeastOf}
-use Rattle.ordered_check.specs.Judged.{HasEdgeUp, IsWayRound, AreGuardedBelow}
+use Rattle.ordered_check.specs.Judged.{LeavesElsewhere, HasEdgeUp, IsWayRound, AreGuardedBelow}
 use Rattle.ordered_check.specs.Firsts.{IsFirstOfClass}
-use Rattle.check_reasons.specs.declared.reason.Reason.TheVariants.{NotLower, MayDrop, NoBefore, Bypass}
+use Rattle.check_reasons.specs.declared.reason.Reason.TheVariants.{NotLower, MayDrop, MayLeave, NoBefore, Bypass}
 use Rattle.ordered_check.proofs.MeaningLaws.{in_force_from_pick}
-use Rattle.ordered_check.proofs.JudgeLaws.{IsJudging, not_lower_first, may_drop_first, no_before_first, bypass_first, certificate_of}
+use Rattle.ordered_check.proofs.JudgeLaws.{IsJudging, not_lower_first, may_drop_first, may_leave_first, no_before_first, bypass_first, certificate_of}
 use Rattle.ordered_check.proofs.GuardedLaws.{class_counted, valid_use, numbering_length, use_within}
 use Rattle.ordered_check.proofs.judging.first_of_class.Goals as goal
 
@@ -96,6 +97,9 @@ returns-in-Some-clause-some c =
 pub least_drop-requires-clause-number : goal.least_drop-requires-clause-number
 least_drop-requires-clause-number c = class_counted (classes_for c.args.of.now.task) c.class_duties-duties.result.now c.args.of.now.task.update.demands c.args.numbered.number c.args.numbered.class c.class_duties-duties.ensures c.requires.class
 
+pub least_elsewhere-requires-clause-number : goal.least_elsewhere-requires-clause-number
+least_elsewhere-requires-clause-number c = class_counted (classes_for c.args.of.now.task) c.class_duties-duties.result.now c.args.of.now.task.update.demands c.args.numbered.number c.args.numbered.class c.class_duties-duties.ensures c.requires.class
+
 pub has_positions-requires-clause-number : goal.has_positions-requires-clause-number
 has_positions-requires-clause-number c = class_counted (classes_for c.args.of.now.task) c.class_duties-duties.result.now c.args.of.now.task.update.demands c.args.numbered.number c.args.numbered.class c.class_duties-duties.ensures c.requires.class
 
@@ -118,6 +122,27 @@ returns-in-Some-least_drop-clause-some c =
     at_round (λ r. IsFirstOfClass t e c.args.k n (MayDrop r n s)) c.args.k
     (may_drop_first t e c.args.k n class numbers (sets_of e.befores shared.befores) noted j falls s least)
 
+pub returns-in-Some-least_elsewhere-clause-some : goal.returns-in-Some-least_elsewhere-clause-some
+returns-in-Some-least_elsewhere-clause-some c =
+    let t = c.args.of.now.task in
+    let e = c.args.of.now.evidence in
+    let shared = c.shared-shared.result.now in
+    let numbers = c.numbering-numbering.result.now in
+    let noted = c.args.walk.now in
+    let n = c.args.numbered.number in
+    let s = c.in-Some-least_elsewhere.switch in
+    let class = c.args.numbered.class in
+    let j = setting t e c.args.k n c.args.pick class numbers shared noted c.keeps_valid.ensures.valid c.requires.class c.requires.round c.requires.in_force c.requires.walked c.shared-shared.ensures
+    c.numbering-numbering.ensures in
+    let falls = subst (λ (es : List Edge). (x : SwitchId) → ¬ HasEdgeUp es numbers x) c.steps-steps.ensures c.in_default.ensures in
+    let demands : c.class_duties-duties.result.now.demands ≡ t.update.demands = ap (λ (d : ClassDuties). d.demands) c.class_duties-duties.ensures in
+    let arrives = subst (λ (ds : List DemandView). (x : SwitchId) → ¬ (IsTrue (duties_of ds class.entry class.first).arrive × IsIn x noted.dropping)) demands
+    (subst (λ (xs : List SwitchId). (x : SwitchId) → ¬ (IsTrue (duties_of c.class_duties-duties.result.now.demands class.entry class.first).arrive × IsIn x xs)) c.dropping.ensures c.in_default-least_drop.ensures) in
+    let least = subst (λ (ds : List DemandView). IsLeastOf (LeavesElsewhere (duties_of ds class.entry class.first).exits noted.exits) (Some s)) demands
+    (subst (λ (stops : List Stop). IsLeastOf (LeavesElsewhere (duties_of c.class_duties-duties.result.now.demands class.entry class.first).exits stops) (Some s)) c.exits.ensures c.in-Some-least_elsewhere.ensures) in
+    at_round (λ r. IsFirstOfClass t e c.args.k n (MayLeave r n s)) c.args.k
+    (may_leave_first t e c.args.k n class numbers (sets_of e.befores shared.befores) noted j falls arrives s least)
+
 pub returns-then-not-has_positions-clause-some : goal.returns-then-not-has_positions-clause-some
 returns-then-not-has_positions-clause-some c =
     let t = c.args.of.now.task in
@@ -133,9 +158,11 @@ returns-then-not-has_positions-clause-some c =
     let demands : c.class_duties-duties.result.now.demands ≡ t.update.demands = ap (λ (d : ClassDuties). d.demands) c.class_duties-duties.ensures in
     let arrives = subst (λ (ds : List DemandView). (x : SwitchId) → ¬ (IsTrue (duties_of ds class.entry class.first).arrive × IsIn x noted.dropping)) demands
     (subst (λ (xs : List SwitchId). (x : SwitchId) → ¬ (IsTrue (duties_of c.class_duties-duties.result.now.demands class.entry class.first).arrive × IsIn x xs)) c.dropping.ensures c.in_default-least_drop.ensures) in
+    let inside = subst (λ (ds : List DemandView). (x : SwitchId) → ¬ LeavesElsewhere (duties_of ds class.entry class.first).exits noted.exits x) demands
+    (subst (λ (stops : List Stop). (x : SwitchId) → ¬ LeavesElsewhere (duties_of c.class_duties-duties.result.now.demands class.entry class.first).exits stops x) c.exits.ensures c.in_default-least_elsewhere.ensures) in
     let count = counted t e.befores class c.list-indices.result.now shared.befores c.class_duties-duties.result.now.demands c.list-indices.ensures demands in
     at_round (λ r. IsFirstOfClass t e c.args.k n (NoBefore r n)) c.args.k
-    (no_before_first t e c.args.k n class numbers (sets_of e.befores shared.befores) noted j falls arrives
+    (no_before_first t e c.args.k n class numbers (sets_of e.befores shared.befores) noted j falls arrives inside
     (λ same. false≢true (sym c.if-not-has_positions.true ∙ c.has_positions.ensures.1 (count.0 same))))
 
 pub returns-in_err-way-clause-none : goal.returns-in_err-way-clause-none
@@ -153,11 +180,13 @@ returns-in_err-way-clause-none c =
     let demands : c.class_duties-duties.result.now.demands ≡ t.update.demands = ap (λ (d : ClassDuties). d.demands) c.class_duties-duties.ensures in
     let arrives = subst (λ (ds : List DemandView). (x : SwitchId) → ¬ (IsTrue (duties_of ds class.entry class.first).arrive × IsIn x noted.dropping)) demands
     (subst (λ (xs : List SwitchId). (x : SwitchId) → ¬ (IsTrue (duties_of c.class_duties-duties.result.now.demands class.entry class.first).arrive × IsIn x xs)) c.dropping.ensures c.in_default-least_drop.ensures) in
+    let inside = subst (λ (ds : List DemandView). (x : SwitchId) → ¬ LeavesElsewhere (duties_of ds class.entry class.first).exits noted.exits x) demands
+    (subst (λ (stops : List Stop). (x : SwitchId) → ¬ LeavesElsewhere (duties_of c.class_duties-duties.result.now.demands class.entry class.first).exits stops x) c.exits.ensures c.in_default-least_elsewhere.ensures) in
     let count = (counted t e.befores class c.list-indices.result.now shared.befores c.class_duties-duties.result.now.demands c.list-indices.ensures demands).1 (c.has_positions.ensures.0 c.if-not-has_positions.false) in
     let below = subst (AreGuardedBelow (IsWayRound class.entry.switch (IsEdge noted.steps) (λ s. IsIn s noted.leaving)) (positions (class_duties t class).chains (sets_of e.befores shared.befores)))
     (sym (length-map shared.befores (λ x. slice_index_or e.befores x []))) c.in_err-way.ensures.none in
     none_holds c.from_residual.result (OrderedCertificate (rollout t) e c.args.k n class.first class.entry (class_duties t class))
-    (certificate_of t e c.args.k n class numbers (sets_of e.befores shared.befores) noted j falls arrives count below)
+    (certificate_of t e c.args.k n class numbers (sets_of e.befores shared.befores) noted j falls arrives inside count below)
 
 pub returns-clause-some : goal.returns-clause-some
 returns-clause-some c =
@@ -175,6 +204,8 @@ returns-clause-some c =
     let demands : c.class_duties-duties.result.now.demands ≡ t.update.demands = ap (λ (d : ClassDuties). d.demands) c.class_duties-duties.ensures in
     let arrives = subst (λ (ds : List DemandView). (x : SwitchId) → ¬ (IsTrue (duties_of ds class.entry class.first).arrive × IsIn x noted.dropping)) demands
     (subst (λ (xs : List SwitchId). (x : SwitchId) → ¬ (IsTrue (duties_of c.class_duties-duties.result.now.demands class.entry class.first).arrive × IsIn x xs)) c.dropping.ensures c.in_default-least_drop.ensures) in
+    let inside = subst (λ (ds : List DemandView). (x : SwitchId) → ¬ LeavesElsewhere (duties_of ds class.entry class.first).exits noted.exits x) demands
+    (subst (λ (stops : List Stop). (x : SwitchId) → ¬ LeavesElsewhere (duties_of c.class_duties-duties.result.now.demands class.entry class.first).exits stops x) c.exits.ensures c.in_default-least_elsewhere.ensures) in
     let count = (counted t e.befores class c.list-indices.result.now shared.befores c.class_duties-duties.result.now.demands c.list-indices.ensures demands).1 (c.has_positions.ensures.0 c.if-not-has_positions.false) in
     at_round (λ r. IsFirstOfClass t e c.args.k n (Bypass r n way.waypoint way.switch)) c.args.k
-    (bypass_first t e c.args.k n class numbers (sets_of e.befores shared.befores) noted j falls arrives count way c.in_ok-way.ensures.some)
+    (bypass_first t e c.args.k n class numbers (sets_of e.befores shared.befores) noted j falls arrives inside count way c.in_ok-way.ensures.some)

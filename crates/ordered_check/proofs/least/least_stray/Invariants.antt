@@ -9,5 +9,5 @@ use Rattle.ordered_check.proofs.least.least_stray.Given as goal
 
 abbrev pub invariant-loop-step : goal.invariant-loop-step
 invariant-loop-step l =
-    let p : Position = record { waypoint = l.waypoint; earlier = option_copied l.earlier; set = l.set } in
+    let p : Position = record { item = l.item; earlier = option_copied l.earlier; set = l.set } in
     IsLeastOf (AtSome (Strays p) (λ (e : Edge). e.from) (take l.step-index l.steps)) l.least

@@ -13,10 +13,10 @@ use Rattle.ordered_check.proofs.least.least_way_round.Goals as goal
 
 pub returns : goal.returns
 returns c =
-    let p : Position = record { waypoint = c.args.waypoint; earlier = option_copied c.args.earlier; set = c.args.set.now } in
+    let p : Position = record { item = c.args.item.now; earlier = option_copied c.args.earlier; set = c.args.set.now } in
     let start = c.args.start in
     let steps = c.args.steps.now in
-    let Unbegun = λ (s : SwitchId). ¬ (Holds p.set s ⊎ (IsFirst p.earlier × (s ≡ p.waypoint))) in
+    let Unbegun = λ (s : SwitchId). ¬ (Holds p.set s ⊎ (IsFirst p.earlier × IsIn s p.item)) in
     let AtStart = λ (s : SwitchId). (s ≡ start) × Unbegun s in
     let Leaves = λ (s : SwitchId). Holds p.set s × IsIn s c.args.leaving.now in
     let InSet = λ (s : SwitchId). Leaves s ⊎ HasStray steps p s in

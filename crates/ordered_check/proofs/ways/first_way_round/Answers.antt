@@ -78,4 +78,4 @@ returns-clause-none c =
     let all : take c.loop-i.i chains ≡ chains = take_all c.loop-i.i chains (omega arith) in
     let at_is : c.loop-i.at ≡ length c.args.indices.now = c.loop-i.invariant.at_is ∙ ap position_count all ∙ sym c.requires.count in
     subst (AreGuardedBelow around (positions chains sets)) at_is
-    (subst (λ (cs : List (List SwitchId)). AreGuardedBelow around (positions cs sets) c.loop-i.at) all c.loop-i.invariant.guarded)
+    (subst (λ (cs : List (List (List SwitchId))). AreGuardedBelow around (positions cs sets) c.loop-i.at) all c.loop-i.invariant.guarded)

@@ -1,6 +1,6 @@
 use Rattle.std.proofs.Common.{ℕ, ◌∙◌, subst, arith}
 use Rattle.std.specs.List.{AllByRecursion}
-use Rattle.std.proofs.lemmas.Result.{IfOk-weaker}
+use Rattle.std.proofs.lemmas.Result.{IfOk-weaker, on_err_weaker}
 use Rattle.update_model.specs.Mixtures.{Rollout, tables_before}
 use Rattle.mixed_walks.specs.Walks.{IsRoundOf}
 use Rattle.round_judge.specs.declared.judging.RoundVerdict.{RoundVerdict}
@@ -10,7 +10,7 @@ use Rattle.certificates.specs.declared.OrderedEvidence.{OrderedEvidence}
 use Rattle.net_base.proofs.MemberLaws.{each_weaker}
 use Rattle.round_judge.specs.Judged.{IsNextRound, IsNewlySafe, WasFound, AreJudged, AreFirstJudged, AreMetJudged}
 use Rattle.round_judge.specs.Visits.{HoldTables, HoldAfter}
-use Rattle.round_judge.proofs.JudgingLaws.{picks_later}
+use Rattle.round_judge.proofs.JudgingLaws.{on_err, picks_later}
 use Rattle.round_judge.proofs.VisitLaws.{round_before, round_after_it}
 use Rattle.round_judge.proofs.judging.judge_all.Goals as goal
 
@@ -22,13 +22,13 @@ judged_first to u e k (Unsafe f) first = first.is_unsafe
 pub judge_rest-requires-clause-came : goal.judge_rest-requires-clause-came
 judge_rest-requires-clause-came c = c.judge_met.ensures.count ∙ c.requires.came
 
-pub returns-in-Unsafe : goal.returns-in-Unsafe
-returns-in-Unsafe c u k round next held =
+pub returns-in-Unsafe-clause-judged : goal.returns-in-Unsafe-clause-judged
+returns-in-Unsafe-clause-judged c u k round next held =
     let (unsafe, below, marked) = subst (λ v. AreMetJudged c.args.goal.now u c.args.tried.now.store.now.evidence k v c.judge_met.new.watch.came.items) c.in-Unsafe.is (c.in_ok-failing.ensures.judged u k round next held) in
     (unsafe, marked)
 
-pub returns-then-has_picks : goal.returns-then-has_picks
-returns-then-has_picks c u k round next held =
+pub returns-then-has_picks-clause-judged : goal.returns-then-has_picks-clause-judged
+returns-then-has_picks-clause-judged c u k round next held =
     let to = c.args.goal.now in
     let e = c.args.tried.now.store.now.evidence in
     let met = subst (λ v. AreMetJudged to u e k v c.judge_met.new.watch.came.items) c.in-Safe.is (c.in_ok-failing.ensures.judged u k round next held) in (
@@ -36,8 +36,8 @@ returns-then-has_picks c u k round next held =
       round_after_it to u k round.net_is next.within (next.good k (omega arith)) c.judge_met.new.watch.came.items met.known,
     )
 
-pub returns-else-has_picks : goal.returns-else-has_picks
-returns-else-has_picks c =
+pub returns-else-has_picks-clause-judged : goal.returns-else-has_picks-clause-judged
+returns-else-has_picks-clause-judged c =
     let to = c.args.goal.now in
     let e = c.args.tried.now.store.now.evidence in
     let changes = c.args.tried.now.changes.now in
@@ -51,4 +51,18 @@ returns-else-has_picks c =
     let met = subst (λ w. AreMetJudged to u e k w came) c.in-Safe.is (c.in_ok-failing.ensures.judged u k round next held) in
     let known = each_weaker (IsNewlySafe to u e k) (WasFound to u e k came) (λ f new. (new, met.known)) c.in-Safe.found.items met.new in
     let (first, after) = all u k round next (round_before to u k round.net_is came met.known) known in
-    (judged_first to u e k v first, after)) c.judge_rest.ensures
+    (judged_first to u e k v first, after)) c.judge_rest.ensures.judged
+
+pub returns-else-has_picks-clause-kept : goal.returns-else-has_picks-clause-kept
+returns-else-has_picks-clause-kept c =
+    let to = c.args.goal.now in
+    let e = c.args.tried.now.store.now.evidence in
+    let came = c.judge_met.new.watch.came.items in
+    on_err_weaker c.judge_rest.result
+    (λ kept u k round next held.
+    let met = subst (λ w. AreMetJudged to u e k w came) c.in-Safe.is (c.in_ok-failing.ensures.judged u k round next held) in
+    let known = each_weaker (IsNewlySafe to u e k) (WasFound to u e k came) (λ f new. (new, met.known)) c.in-Safe.found.items met.new in
+    kept u k round next (round_before to u k round.net_is came met.known) known) c.judge_rest.ensures.kept
+
+pub returns-in_err-failing-clause-kept : goal.returns-in_err-failing-clause-kept
+returns-in_err-failing-clause-kept c = on_err c.from_residual.result c.in_err-failing.ensures.kept

@@ -77,3 +77,10 @@ returns-in-None-clause-walks c = λ u k round.
     let count = c.requires.came in
     walks_put u k c.args.numbered.number c.args.watch.now.came.items c.walk-visited.new.watch.came.items c.walk-visited.result c.args.numbered.class (omega arith) c.walk-visited.ensures.noted
     (c.walk-visited.ensures.held u k round)
+
+pub returns-in_err-evidence-clause-walks : goal.returns-in_err-evidence-clause-walks
+returns-in_err-evidence-clause-walks c = λ u k round.
+    let number = c.requires.number in
+    let count = c.requires.came in
+    walks_put u k c.args.numbered.number c.args.watch.now.came.items c.walk-visited.new.watch.came.items c.walk-visited.result c.args.numbered.class (omega arith) c.walk-visited.ensures.noted
+    (c.walk-visited.ensures.held u k round)

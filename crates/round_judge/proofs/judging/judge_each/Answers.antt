@@ -3,7 +3,7 @@ use Rattle.net_base.proofs.MemberLaws.{each_at, each_from_in}
 use Rattle.dest_classes.specs.Classes.{IsClass, class_count}
 use Rattle.dest_classes.specs.declared.Class.{Class}
 use Rattle.round_judge.specs.Judged.{AreSafeBelow, WasFound}
-use Rattle.round_judge.proofs.JudgingLaws.{safe_none, safe_noted, failed_noted, failed_below, judged_met}
+use Rattle.round_judge.proofs.JudgingLaws.{on_err, safe_none, safe_noted, failed_noted, failed_below, judged_met}
 use Rattle.round_judge.proofs.VisitLaws.{AreHeldBelow, held_none, held_more, held_all, held_back, round_still, round_after_it}
 use Rattle.round_judge.proofs.judging.judge_each.Goals as goal
 
@@ -26,8 +26,8 @@ judge_next-requires-clause-number c =
 pub judge_next-requires-clause-came : goal.judge_next-requires-clause-came
 judge_next-requires-clause-came c = c.loop-number.invariant.count ∙ c.requires.came
 
-pub returns-in-Some : goal.returns-in-Some
-returns-in-Some c u k round next held met =
+pub returns-in-Some-clause-judged : goal.returns-in-Some-clause-judged
+returns-in-Some-clause-judged c u k round next held met =
     let to = c.args.goal.now in
     let e = c.args.tried.now.store.now.evidence in
     let number = c.loop-number.number in
@@ -69,8 +69,8 @@ loop-number-preserved c =
           );
     }
 
-pub returns : goal.returns
-returns c u k round next held met =
+pub returns-clause-judged : goal.returns-clause-judged
+returns-clause-judged c u k round next held met =
     let to = c.args.goal.now in
     let count : c.count-number-end.result ≡ class_count to.classes = c.count-number-end.ensures.count in
     let last : c.loop-number.number ≡ c.count-number-end.result = omega arith in
@@ -79,3 +79,23 @@ returns c u k round next held met =
       subst (λ n. AreSafeBelow to u c.args.tried.now.store.now.evidence k n c.loop-number.found.items) (last ∙ count) safe,
       round_after_it to u k round.net_is next.within (next.good k (omega arith)) c.loop-number.watch.came.items (held_all to u k c.loop-number.watch.came.items all),
     )
+
+pub returns-in_err-judged-clause-kept : goal.returns-in_err-judged-clause-kept
+returns-in_err-judged-clause-kept c = on_err c.from_residual.result (λ u k round next held met.
+    let to = c.args.goal.now in
+    let number = c.loop-number.number in
+    let judged = c.judge_next.ensures in
+    let (safe, before, known) = c.loop-number.invariant.safe u k round next held met in
+    held_back to u k round.net_is (number + 1) c.judge_next.new.watch.came.items
+    (held_more to u k number c.loop-number.watch.came.items c.judge_next.new.watch.came.items
+    (record { count = judged.count; others = judged.others; walks = λ class is was. judged.walks u k class round is before }) known))
+
+pub returns-in_err-failing-clause-kept : goal.returns-in_err-note-clause-kept
+returns-in_err-failing-clause-kept c = on_err c.from_residual.result (λ u k round next held met.
+    let to = c.args.goal.now in
+    let number = c.loop-number.number in
+    let judged = c.judge_next.ensures in
+    let (safe, before, known) = c.loop-number.invariant.safe u k round next held met in
+    held_back to u k round.net_is (number + 1) c.judge_next.new.watch.came.items
+    (held_more to u k number c.loop-number.watch.came.items c.judge_next.new.watch.came.items
+    (record { count = judged.count; others = judged.others; walks = λ class is was. judged.walks u k class round is before }) known))

@@ -1,5 +1,5 @@
 use Rattle.std.proofs.Common.{◌≡◌, ℕ, false, Bool, List, sym, ◌∙◌, subst, arith}
-use Rattle.std.proofs.lemmas.Result.{IfOk-weaker, on_ok_weaker}
+use Rattle.std.proofs.lemmas.Result.{IfOk-weaker}
 use Rattle.dest_classes.specs.Classes.{IsClass}
 use Rattle.dest_classes.specs.declared.Class.{Class}
 use Rattle.update_model.specs.Mixtures.{Rollout, tables_before}
@@ -58,15 +58,13 @@ returns-clause-judged c =
     judged_met to u e k number class j (judged_there to u e k numbered number class c.numbered-numbered.ensures.number same j (all u k round next))) c.judge_class.ensures.judged
 
 pub returns-clause-walks : goal.returns-clause-walks
-returns-clause-walks c =
+returns-clause-walks c u k class round is next held =
     let to = c.args.goal.now in
     let number = c.args.number in
     let numbered = c.numbered-numbered.result in
-    on_ok_weaker c.judge_class.result
-    (λ all u k class round is next held.
     let same = numbered_class to.classes number numbered c.numbered-numbered.ensures.number c.numbered-numbered.ensures.class class is in
     subst (λ (x : Class). HoldsWalks u k x (marks_at c.judge_class.new.watch.came.items number)) same
-    (subst (λ (i : ℕ). HoldsWalks u k numbered.class (marks_at c.judge_class.new.watch.came.items i)) c.numbered-numbered.ensures.number (all u k round))) c.judge_class.ensures.walks
+    (subst (λ (i : ℕ). HoldsWalks u k numbered.class (marks_at c.judge_class.new.watch.came.items i)) c.numbered-numbered.ensures.number (c.judge_class.ensures.walks u k round))
 
 pub returns-clause-others : goal.returns-clause-others
 returns-clause-others c n other = c.judge_class.ensures.others n (λ same. other (same ∙ c.numbered-numbered.ensures.number))

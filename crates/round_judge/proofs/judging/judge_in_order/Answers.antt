@@ -1,6 +1,6 @@
 use Rattle.std.proofs.Common.{ℕ, ◌<◌, arith}
 use Rattle.std.specs.List.{AllByRecursion}
-use Rattle.std.proofs.lemmas.Result.{IfOk-weaker}
+use Rattle.std.proofs.lemmas.Result.{IfOk-weaker, on_err_weaker}
 use Rattle.update_model.specs.Mixtures.{Rollout, tables_before}
 use Rattle.mixed_walks.specs.Walks.{IsRoundOf}
 use Rattle.certificates.specs.declared.OrderedEvidence.{OrderedEvidence}
@@ -21,8 +21,8 @@ met_first : (to : Target) (u : Rollout) (e : OrderedEvidence) (k : ℕ) (changes
 met_first to u e k changes net next later (Safe found) came met = (met.later later, round_after_it to u k net next.within (next.good k (omega arith)) came met.known)
 met_first to u e k changes net next later (Unsafe f) came (unsafe, below, known) = (record { is_unsafe = unsafe; below = below later }, known)
 
-pub returns-then-has_picks : goal.returns-then-has_picks
-returns-then-has_picks c =
+pub returns-then-has_picks-clause-judged : goal.returns-then-has_picks-clause-judged
+returns-then-has_picks-clause-judged c =
     let to = c.args.goal.now in
     let e = c.args.tried.now.store.now.evidence in
     let changes = c.args.tried.now.changes.now in
@@ -35,8 +35,8 @@ returns-then-has_picks c =
     (λ v all u k round next held.
     met_first to u e k changes round.net_is next (picks_later e.picks k (c.has_picks.ensures c.if-has_picks.true) next.picks) v came (all u k round next held)) c.judge_met.ensures.judged
 
-pub returns : goal.returns
-returns c =
+pub returns-clause-judged : goal.returns-clause-judged
+returns-clause-judged c =
     let to = c.args.goal.now in
     let tried = c.args.tried.now in
     let e = tried.store.now.evidence in
@@ -46,4 +46,11 @@ returns c =
     (λ (v : RoundVerdict). (u : Rollout) (k : ℕ) → IsRoundOf to.net tried.mixes.now u k → IsNextRound to u e k tried.changes.now → HoldTables to (tables_before u k) was → AllByRecursion (WasFound to u e k was) c.new.result.items
     → AreFirstJudged to u e k v × HoldAfter to u k v came)
     (λ (v : RoundVerdict). (u : Rollout) (k : ℕ) → IsRoundOf to.net tried.mixes.now u k → IsNextRound to u e k tried.changes.now → HoldTables to (tables_before u k) was → AreFirstJudged to u e k v × HoldAfter to u k v came)
-    (λ v all u k round next held. all u k round next held (subst (AllByRecursion (WasFound to u e k was)) (sym c.new.ensures.items) tt)) c.judge_rest.ensures
+    (λ v all u k round next held. all u k round next held (subst (AllByRecursion (WasFound to u e k was)) (sym c.new.ensures.items) tt)) c.judge_rest.ensures.judged
+
+pub returns-clause-kept : goal.returns-clause-kept
+returns-clause-kept c =
+    let e = c.args.tried.now.store.now.evidence in
+    let was = c.args.watch.now.came.items in
+    on_err_weaker c.judge_rest.result
+    (λ kept u k round next held. kept u k round next held (subst (AllByRecursion (WasFound c.args.goal.now u e k was)) (sym c.new.ensures.items) tt)) c.judge_rest.ensures.kept

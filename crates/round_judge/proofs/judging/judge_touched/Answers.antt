@@ -1,6 +1,6 @@
 use Rattle.std.proofs.Common.{◌≡◌, ◌+◌, ◌<◌, refl, sym, ◌∙◌, subst, arith}
 use Rattle.dest_classes.specs.Classes.{class_count}
-use Rattle.round_judge.proofs.JudgingLaws.{AreMetBelow, met_none, met_noted, failed_noted, failed_below}
+use Rattle.round_judge.proofs.JudgingLaws.{AreMetBelow, on_err, met_none, met_noted, failed_noted, failed_below}
 use Rattle.round_judge.proofs.VisitLaws.{held_none, held_more, held_all, held_back}
 use Rattle.round_judge.proofs.MetLaws.{AreMetUpTo, passed_over, past_to}
 use Rattle.round_judge.proofs.judging.judge_touched.Goals as goal
@@ -90,3 +90,24 @@ returns-clause-judged c u k round next held =
     let all : c.judging.number ≡ class_count to.classes = omega arith in
     let ((later, new), known) = subst (AreMetUpTo to u e k changes next round.keeps_old round.keeps c.judging.found.items c.judging.watch.came.items) all (c.judging.invariant.met u k round next held) in
     record { later = later; new = new; known = held_all to u k c.judging.watch.came.items known }
+
+-- the sets still hold, whatever was found for the last class that was looked at
+pub returns-in_err-judged-clause-kept : goal.returns-in_err-judged-clause-kept
+returns-in_err-judged-clause-kept c = on_err c.from_residual.result (λ u k round next held.
+    let to = c.args.goal.now in
+    let number = c.judging.number in
+    let judged = c.judge_if_met.ensures in
+    let (_, known) = c.judging.invariant.met u k round next held in
+    held_back to u k round.net_is (number + 1) c.judge_if_met.new.watch.came.items
+    (held_more to u k number c.judging.watch.came.items c.judge_if_met.new.watch.came.items
+    (record { count = judged.count; others = judged.others; walks = λ class is before. judged.walks u k class round is next before }) known))
+
+pub returns-in_err-failing-clause-kept : goal.returns-in_err-note-clause-kept
+returns-in_err-failing-clause-kept c = on_err c.from_residual.result (λ u k round next held.
+    let to = c.args.goal.now in
+    let number = c.judging.number in
+    let judged = c.judge_if_met.ensures in
+    let (_, known) = c.judging.invariant.met u k round next held in
+    held_back to u k round.net_is (number + 1) c.judge_if_met.new.watch.came.items
+    (held_more to u k number c.judging.watch.came.items c.judge_if_met.new.watch.came.items
+    (record { count = judged.count; others = judged.others; walks = λ class is before. judged.walks u k class round is next before }) known))

@@ -6,5 +6,5 @@ use Rattle.round_survey.specs.Gates.{IsMetFrom}
 use Rattle.round_survey.proofs.seen.meets_chains.Given as goal
 
 abbrev pub invariant-loop-i : goal.invariant-loop-i
-invariant-loop-i l = (j : ℕ) (chain : List SwitchId) → j < l.i → slice_get (duties_of l.duties.demands l.numbered.class.entry l.numbered.class.first).chains j ≡ Some chain
+invariant-loop-i l = (j : ℕ) (chain : List (List SwitchId)) → j < l.i → slice_get (duties_of l.duties.demands l.numbered.class.entry l.numbered.class.first).chains j ≡ Some chain
     → IsMetFrom l.seen.gates.numbering l.seen.gates.set l.numbered.class.entry.switch chain

@@ -1,5 +1,5 @@
 use Rattle.std.proofs.Common.{◌≡◌, [], ◌∷◌, ◌++◌, drop, sym, ap, ◌∙◌, append_assoc, add-one, slice_get, suc, Some, true}
-use Rattle.tables_command.specs.Listed.{flagged_changes, neither}
+use Rattle.law_courses.specs.Pending.{flagged_changes, neither}
 use Rattle.tables_command.proofs.ListedLaws.{flagged_on, flagged_off}
 use Rattle.tables_command.proofs.listing.add_unmade.Goals as goal
 use Rattle.tables_command.proofs.listing.add_unmade.Goals.{then-is_unmade+in_ok-push, else-is_unmade}

@@ -1,5 +1,5 @@
 use Rattle.std.proofs.Common.{◌≡◌, ◌++◌, drop}
-use Rattle.tables_command.specs.Listed.{flagged_changes, neither}
+use Rattle.law_courses.specs.Pending.{flagged_changes, neither}
 use Rattle.tables_command.proofs.listing.add_unmade.Given as goal
 
 abbrev pub invariant-loop-i : goal.invariant-loop-i

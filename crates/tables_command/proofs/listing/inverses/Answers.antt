@@ -6,7 +6,7 @@ use Rattle.update_model.specs.States.{settled_count}
 use Rattle.update_model.specs.Worlds.{running_round}
 use Rattle.update_model.specs.declared.Change.{Change}
 use Rattle.law_two_way_runs.specs.Inverse.{inverse_round}
-use Rattle.tables_command.specs.Listed.{flagged_changes}
+use Rattle.law_courses.specs.Pending.{flagged_changes}
 use Rattle.tables_command.proofs.ListedLaws.{turn_off, turn_on}
 use Rattle.tables_command.proofs.listing.inverses.Goals as goal
 

@@ -3,7 +3,7 @@ use Rattle.update_model.specs.Mixtures.{tables_before}
 use Rattle.update_model.specs.States.{settled_count}
 use Rattle.update_model.specs.Worlds.{running_round}
 use Rattle.law_two_way_runs.specs.Inverse.{inverse_round}
-use Rattle.tables_command.specs.Listed.{flagged_changes}
+use Rattle.law_courses.specs.Pending.{flagged_changes}
 use Rattle.tables_command.proofs.listing.inverses.Given as goal
 
 abbrev pub invariant-loop-left : goal.invariant-loop-left

@@ -1,4 +1,4 @@
-use Rattle.tables_command.proofs.ListedLaws.{neither_at}
+use Rattle.law_courses.proofs.PendingLaws.{neither_at}
 use Rattle.tables_command.proofs.listing.is_unmade.Goals as goal
 
 pub returns-then-is_off : goal.returns-then-is_off

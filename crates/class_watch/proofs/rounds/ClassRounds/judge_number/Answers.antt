@@ -1,6 +1,7 @@
-use Rattle.std.proofs.Common.{Some, refl, ◌∙◌, ap, arith}
+use Rattle.std.proofs.Common.{◌≡◌, ℕ, suc, List, length, set as set_at, Some, refl, sym, ◌∙◌, subst, ap, arith}
 use Rattle.std.proofs.lemmas.List.{length-set}
 use Rattle.check_reasons.proofs.PositionLaws.{get_set_other}
+use Rattle.class_watch.specs.Judges.{AreHeld, AreWalkedBelow}
 use Rattle.class_watch.proofs.ListLaws.{read_at}
 use Rattle.class_watch.proofs.MarkLaws.{held_put, walked_put, walked_held, told_held, host_within}
 use Rattle.class_watch.proofs.rounds.ClassRounds.judge_number.Goals as goal
@@ -45,6 +46,15 @@ alone-requires-clause-walked g c =
     let at = g.J.ClassJudge.judged c.args.judge.now in
     c.walk.ensures at.update at.number c.requires.round.is
 
+pub put-requires-clause-number : goal.put-requires-clause-number
+put-requires-clause-number g c =
+    let count = ap (λ (xs : List ℕ). length xs) c.widen.ensures.items ∙ c.requires.kept.room.sets in
+    let less = c.requires.number in
+    omega arith
+
+pub put-requires-clause-set : goal.put-requires-clause-set
+put-requires-clause-set g c = λ s on. c.widen.ensures.come s ((c.switches_on-came.ensures.each s).0 on)
+
 pub returns : goal.returns
 returns g c =
     let at = g.J.ClassJudge.judged c.args.judge.now in
@@ -55,18 +65,21 @@ returns g c =
     let set = c.switches_on-came.result in
     let kept = c.alone.result in
     let there = read_at old.classes.items n class (let count = c.requires.kept.room.classes_are.count in let less = c.requires.number in omega arith) c.index-class.ensures in
+    let put : c.put.new.self.items ≡ set_at old.came.items n set = c.put.ensures.items ∙ ap (λ (xs : List ℕ). set_at xs n set) c.widen.ensures.items in
     let walks = c.switches_on-came.ensures.held at.update at.number class (c.walk.ensures at.update at.number c.requires.round.is) in
     record {
       kept = record {
         room = record {
           classes_are = c.requires.kept.room.classes_are;
-          sets = length-set old.came.items n set ∙ c.requires.kept.room.sets;
+          sets = ap (λ (xs : List ℕ). length xs) put ∙ length-set old.came.items n set ∙ c.requires.kept.room.sets;
           marks = length-set old.good.items n kept ∙ c.requires.kept.room.marks;
           few = c.requires.kept.room.few;
         };
-        held = held_put at holds old.classes.items old.came.items old.good.items n class there set kept walks c.alone.ensures.held c.requires.kept.held;
+        held =
+            subst (λ (xs : List ℕ). AreHeld at holds old.classes.items xs (set_at old.good.items n kept)) (sym put)
+            (held_put at holds old.classes.items old.came.items old.good.items n class there set kept walks c.alone.ensures.held c.requires.kept.held);
       };
-      below = walked_put at holds old.classes.items old.came.items old.good.items n class there set kept walks c.requires.below;
+      below = subst (AreWalkedBelow (suc n) at old.classes.items) (sym put) (walked_put at holds old.classes.items old.came.items old.good.items n class there set kept walks c.requires.below);
       others = λ m less. get_set_other old.good.items n m kept (λ same. omega arith);
       told = c.alone.ensures.told;
     }

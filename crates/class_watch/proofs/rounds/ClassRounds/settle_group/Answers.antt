@@ -6,6 +6,7 @@ use Rattle.dest_classes.specs.declared.NumberedClass.{NumberedClass}
 use Rattle.dest_classes.proofs.MapLaws.{number_fits}
 use Rattle.mixed_walks.specs.Walks.{AreTogether}
 use Rattle.class_watch.specs.Classes.{AreClasses}
+use Rattle.class_watch.specs.Judges.{AreMarkedWith}
 use Rattle.class_watch.specs.Walks.{HoldsWalks}
 use Rattle.class_watch.proofs.MarkLaws.{held_more, still_marked, host_used}
 use Rattle.class_watch.proofs.rounds.ClassRounds.settle_group.Goals as goal
@@ -45,6 +46,9 @@ together-requires-clause-walked g c =
 pub together-requires-clause-entries : goal.together-requires-clause-entries
 together-requires-clause-entries g c m i = c.walk_members.ensures.entries m (subst (λ (xs : List NumberedClass). IsIn m xs) (sym c.deref-3.ensures.value) i)
 
+pub mark_members-requires-clause-set : goal.mark_members-requires-clause-set
+mark_members-requires-clause-set g c = λ s on. c.widen.ensures.come s ((c.switches_on-came.ensures.each s).0 on)
+
 pub mark_members-requires-clause-good : goal.mark_members-requires-clause-good
 mark_members-requires-clause-good g c m i =
     let at = g.J.ClassJudge.judged c.args.judge.now in
@@ -58,7 +62,7 @@ mark_members-requires-clause-came g c m i =
     let at = g.J.ClassJudge.judged c.args.judge.now in
     let member = c.in-Some.ensures m (c.together.ensures.left m (subst (λ (xs : List NumberedClass). IsIn m xs) c.deref-4.ensures.value i)) in
     let within = number_fits at.classes m.number m.class member.is in
-    let count = c.requires.kept.room.sets in
+    let count = ap (λ (xs : List ℕ). length xs) c.widen.ensures.items ∙ c.requires.kept.room.sets in
     omega arith
 
 pub returns : goal.returns
@@ -68,7 +72,8 @@ returns g c =
     let old = c.args.self.now in
     let members = c.deref-4.result.now in
     let set = c.switches_on-came.result in
-    let each = c.mark_members.ensures.each in
+    let wider = c.widen.ensures.items in
+    let each = subst (λ (xs : List ℕ). AreMarkedWith members set old.good.items xs c.mark_members.new.good.items c.mark_members.new.came.items) wider c.mark_members.ensures.each in
     let left = λ (m : NumberedClass) (i : IsIn m members). subst (λ (xs : List NumberedClass). IsIn m xs) c.deref-4.ensures.value i in
     let was = λ (m : NumberedClass) (i : IsIn m members). c.together.ensures.left m (left m i) in
     let is : (m : NumberedClass) → IsIn m members → IsClass at.classes m.number m.class = λ m i. (c.in-Some.ensures m (was m i)).is in
@@ -80,7 +85,7 @@ returns g c =
       kept = record {
         room = record {
           classes_are = c.requires.kept.room.classes_are;
-          sets = c.mark_members.ensures.came ∙ c.requires.kept.room.sets;
+          sets = c.mark_members.ensures.came ∙ ap (λ (xs : List ℕ). length xs) wider ∙ c.requires.kept.room.sets;
           marks = c.mark_members.ensures.good ∙ c.requires.kept.room.marks;
           few = c.requires.kept.room.few;
         };

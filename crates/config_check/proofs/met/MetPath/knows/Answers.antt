@@ -8,7 +8,7 @@ use Rattle.dest_classes.proofs.MapLaws.{class_exists}
 use Rattle.demands.specs.Duties.{ClassDuties, PacketDuties, duties_of}
 use Rattle.demands.specs.Good.{switches_of}
 use Rattle.demands.specs.OfClass.{HaveSameDuties}
-use Rattle.net_base.specs.Members.{IsSubsequence}
+use Rattle.net_base.specs.Members.{MeetsInOrder}
 use Rattle.std.specs.List.{AllByRecursion}
 use Rattle.config_check.specs.Met.{MetState, MeetsChainsOf}
 use Rattle.config_check.proofs.met.MetPath.knows.Goals as goal
@@ -20,8 +20,8 @@ stop_decides a b = search rules
 met_of_same : (d : ClassDuties) (kept n : ℕ) (stops others : List Stop) → kept < class_count d.classes → MeetsChainsOf d kept stops → HaveSameDuties d kept n → stops ≡ others → MeetsChainsOf d n others
 met_of_same d kept n stops others fits met same stops_are class is =
     let (one, there) = class_exists d.classes kept fits in
-    subst (λ (p : PacketDuties). AllByRecursion (λ chain. IsSubsequence chain (switches_of others)) p.chains) (same one there class is)
-    (subst (λ (xs : List Stop). AllByRecursion (λ chain. IsSubsequence chain (switches_of xs)) (duties_of d.demands one.entry one.first).chains) stops_are (met one there))
+    subst (λ (p : PacketDuties). AllByRecursion (λ chain. MeetsInOrder chain (switches_of others)) p.chains) (same one there class is)
+    (subst (λ (xs : List Stop). AllByRecursion (λ chain. MeetsInOrder chain (switches_of xs)) (duties_of d.demands one.entry one.first).chains) stops_are (met one there))
 
 kept_of : (d : ClassDuties) (o : Option ℕ) (n : ℕ) (stops : List Stop) → o ≡ Some n → IfSome o (λ m. (m < class_count d.classes) × MeetsChainsOf d m stops) → (n < class_count d.classes) × MeetsChainsOf d n stops
 kept_of d o n stops is h = subst (λ (x : Option ℕ). IfSome x (λ m. (m < class_count d.classes) × MeetsChainsOf d m stops)) is h

@@ -21,7 +21,7 @@ returns-clause-last c =
     let chains = (duties_of d.demands of.class.entry of.class.first).chains in
     elim c.match-found.branch [
       | in-Some-found+in_ok-keep w ↦ subst (HoldsLast net d) (sym w.self-is) (
-          w.in_ok-keep.ensures net d c.requires.last c.requires.class
+          w.in_ok-keep.ensures.last net d c.requires.last c.requires.class
           (subst (λ (o : Option (List (List ℕ))). AreGuardsFound net of.class.entry.switch c.args.walk.now chains o) w.in-Some-found.is c.in_ok-found.ensures))
       | in_default-found w ↦ subst (HoldsLast net d) (sym w.self-is) c.requires.last
     ]

@@ -1,5 +1,5 @@
 use Rattle.std.proofs.Common.{◌+◌, ◌-◌, ◌<◌, inl, arith}
-use Rattle.mixed_walks.proofs.TogetherLaws.{few_together_to, together_room, together_next, together_all}
+use Rattle.mixed_walks.proofs.TogetherLaws.{few_together_to, together_room, together_exit_room, together_next, together_all}
 use Rattle.mixed_walks.proofs.walk.WalkRoom.go_on.Goals as goal
 
 pub going-init : goal.going-init
@@ -12,6 +12,7 @@ expand-requires-clause-round c =
       k,
       round,
       together_room u k c.args.class.first c.args.class.entry.vlan c.args.net.now c.args.mixes.now round c.keeps_rules.ensures c.going.next c.going.self (c.going.invariant.so_far u k round together),
+      together_exit_room u k c.args.class.first c.args.class.entry.vlan c.args.net.now c.args.mixes.now round c.keeps_rules.ensures c.going.next c.going.self (c.going.invariant.so_far u k round together),
     )
 
 pub going-preserved : goal.going-preserved

@@ -1,5 +1,5 @@
 use Rattle.std.proofs.Common.{◌+◌, ◌-◌, ◌<◌, arith}
-use Rattle.mixed_walks.proofs.WalkedLaws.{few_so_far, walked_room, walked_next, walked_all}
+use Rattle.mixed_walks.proofs.WalkedLaws.{few_so_far, walked_room, walked_exit_room, walked_next, walked_all}
 use Rattle.mixed_walks.proofs.walk.WalkRoom.walk.Goals as goal
 
 pub walking-init : goal.walking-init
@@ -12,6 +12,7 @@ expand-requires-clause-round c =
       k,
       round,
       walked_room u k c.args.class.first c.args.class.entry c.args.net.now c.args.mixes.now round c.keeps_rules.ensures c.requires.entry c.walking.next c.walking.self (c.walking.invariant u k round),
+      walked_exit_room u k c.args.class.first c.args.class.entry c.args.net.now c.args.mixes.now round c.keeps_rules.ensures c.requires.entry c.walking.next c.walking.self (c.walking.invariant u k round),
     )
 
 pub walking-preserved : goal.walking-preserved

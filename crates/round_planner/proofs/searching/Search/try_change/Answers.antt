@@ -54,7 +54,7 @@ take-requires c =
     let net = subst (λ (n : Network). IsNetwork n) (ap (λ (a : Target). a.net) c.goal.view_is) c.keeps_rules.ensures in
     let following = tried_next to old user new_user changes c.args.change.now _ c.begin.new.self here i c.begin.ensures.rules trying net in
     let came = tried_came to old user new_user changes c.args.change.now _ c.begin.new.self here i c.begin.ensures.rules trying in
-    let (judged, marked) = c.in_ok-found.ensures next (length changes) prepared following came in
+    let (judged, marked) = c.in_ok-found.ensures.judged next (length changes) prepared following came in
     let safe = subst (AreJudged to next c.self.inside.store.evidence (length changes)) c.in-Safe.is judged in
     let held = subst (λ v. HoldAfter to next (length changes) v c.judge_all.new.watch.came.items) c.in-Safe.is marked in (
       old,
@@ -76,7 +76,7 @@ returns-in_ok-take-in-Safe c old changes user at i =
     let net = subst (λ (n : Network). IsNetwork n) (ap (λ (a : Target). a.net) c.goal.view_is) c.keeps_rules.ensures in
     let following = tried_next to old user new_user changes c.args.change.now _ c.begin.new.self here i c.begin.ensures.rules trying net in
     let came = tried_came to old user new_user changes c.args.change.now _ c.begin.new.self here i c.begin.ensures.rules trying in
-    let (judged, marked) = c.in_ok-found.ensures next (length changes) prepared following came in
+    let (judged, marked) = c.in_ok-found.ensures.judged next (length changes) prepared following came in
     let safe = subst (AreJudged to next c.self.inside.store.evidence (length changes)) c.in-Safe.is judged in
     let held = subst (λ v. HoldAfter to next (length changes) v c.judge_all.new.watch.came.items) c.in-Safe.is marked in (
       tried_qualifies to old user new_user changes c.args.change.now _ c.begin.new.self here i c.begin.ensures.rules trying c.in-Safe.found.items safe,
@@ -96,7 +96,7 @@ returns-in-Unsafe c old changes user at i =
     let net = subst (λ (n : Network). IsNetwork n) (ap (λ (a : Target). a.net) c.goal.view_is) c.keeps_rules.ensures in
     let following = tried_next to old user new_user changes c.args.change.now _ c.begin.new.self here i c.begin.ensures.rules trying net in
     let came = tried_came to old user new_user changes c.args.change.now _ c.begin.new.self here i c.begin.ensures.rules trying in
-    let (judged, marked) = c.in_ok-found.ensures next (length changes) prepared following came in
+    let (judged, marked) = c.in_ok-found.ensures.judged next (length changes) prepared following came in
     let unsafe = subst (AreJudged to next c.self.inside.store.evidence (length changes)) c.in-Unsafe.is judged in
     let held = subst (λ v. HoldAfter to next (length changes) v c.judge_all.new.watch.came.items) c.in-Unsafe.is marked in (
       tried_fails to old user new_user changes c.args.change.now _ c.begin.new.self here i c.begin.ensures.rules trying c.in-Unsafe.failing unsafe,

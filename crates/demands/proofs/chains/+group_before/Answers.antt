@@ -1,0 +1,7 @@
+use Rattle.std.specs.Prelude.{nat_lt}
+use Rattle.std.proofs.Common.{sym, ◌∙◌}
+use Rattle.demands.proofs.ChainLaws.{lt_none}
+use Rattle.demands.proofs.chains.+group_before.Goals as goal
+
+pub returns-then-is_empty : goal.returns-then-is_empty
+returns-then-is_empty t c = lt_none (λ s t. nat_lt s.0 t.0) c.args.a.now c.args.b.now (sym c.is_empty.ensures ∙ c.if-is_empty.true)

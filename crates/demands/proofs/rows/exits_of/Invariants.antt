@@ -1,0 +1,10 @@
+use Rattle.std.proofs.Common.{◌≡◌, ◌≤◌, length, drop}
+use Rattle.demands.specs.Duties.{duties_of}
+use Rattle.demands.specs.Kept.{common_exits}
+use Rattle.demands.proofs.rows.exits_of.Given as goal
+
+abbrev pub invariant-loop-left : goal.invariant-loop-left
+invariant-loop-left l = record { within : l.left ≤ length l.demands; made : l.exits ≡ common_exits (duties_of (drop l.left l.demands) l.class.entry l.class.first).exits }
+
+abbrev pub decreases-loop-left : goal.decreases-loop-left
+decreases-loop-left l = l.left

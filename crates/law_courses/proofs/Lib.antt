@@ -1,0 +1,2 @@
+pub mod BothWaysLaws
+pub mod PendingLaws
